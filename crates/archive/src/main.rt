@@ -4,8 +4,7 @@
 // and there is a longest list. What is turned down gets a line on standard error and nothing on standard output.
 ghost use Rattle.std.specs.Prelude.{◌*◌, ◌≤◌, length};
 
-use mesh::least;
-use paper::Answer;
+use paper::Refusal;
 use rearrange::four_bytes::{LONGEST_BYTES, LONGEST_LIST};
 
 fn main(rt: HostRuntime) {
@@ -25,15 +24,15 @@ fn run(rt: HostRuntime, bytes: &mut [u8; LONGEST_BYTES + 1], numbers: &mut [i32;
 
 // Reads the bytes, one more than the longest list has, so that a longer one is noticed, and lends a number for each four of them.
 fn archive_input(rt: HostRuntime, bytes: &mut [u8], numbers: &mut [i32]) {
-    let got = streams::input::read_up_to(rt, &mut rt.stdin(), b"standard input", bytes);
-    let held = got.count;
-    if LONGEST_BYTES < held {
-        streams::output::complain(rt, b"standard input: more than 1572864 bytes\n");
-        return;
-    }
-    if got.ok {
-        let n = least(held / 4, numbers.len());
-        archive_numbers(rt, &mut bytes[..held], &mut numbers[..n]);
+    match streams::input::read_up_to(rt, &mut rt.stdin(), b"standard input", bytes) {
+        Ok(held) if LONGEST_BYTES < held => {
+            streams::output::complain(rt, b"standard input: more than 1572864 bytes\n");
+        }
+        Ok(held) => {
+            let n = (held / 4).min(numbers.len());
+            archive_numbers(rt, &mut bytes[..held], &mut numbers[..n]);
+        }
+        Err(_) => {}
     }
 }
 
@@ -42,11 +41,10 @@ fn archive_numbers(rt: HostRuntime, bytes: &mut [u8], numbers: &mut [i32])
     requires { 4 * length numbers.old ≤ length bytes.old }
 {
     rearrange::four_bytes::read_numbers(bytes, numbers);
-    let answer = rearrange::archive(numbers, bytes);
-    match answer {
-        Answer::Refused(number, place) => lines::complain_refusal(rt, number, place),
-        Answer::Done => {
+    match rearrange::archive(numbers, bytes) {
+        Ok(()) => {
             streams::output::say(rt, bytes);
         }
+        Err(Refusal { number, place }) => lines::complain_refusal(rt, number, place),
     }
 }

@@ -4,3 +4,4 @@ pub mod Sum
 pub mod Derivative
 pub mod Tapering
 pub mod Samples
+pub mod Rows

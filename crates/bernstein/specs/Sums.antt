@@ -7,6 +7,13 @@ use Rattle.bernstein.specs.declared.Matrix5.{Matrix5}
 abbrev pub vector5 : ℤ → ℤ → ℤ → ℤ → ℤ → Vector5
 vector5 a b c d e = record { a = a; b = b; c = c; d = d; e = e }
 
+-- what f makes of each row, and of each row of two matrices
+abbrev pub each_row : (Vector5 → Vector5) → Matrix5 → Matrix5
+each_row f p = record { r0 = f p.r0; r1 = f p.r1; r2 = f p.r2; r3 = f p.r3; r4 = f p.r4 }
+
+abbrev pub both_rows : (Vector5 → Vector5 → Vector5) → Matrix5 → Matrix5 → Matrix5
+both_rows f p q = record { r0 = f p.r0 q.r0; r1 = f p.r1 q.r1; r2 = f p.r2 q.r2; r3 = f p.r3 q.r3; r4 = f p.r4 q.r4 }
+
 -- ---- sums over two weights x and y, of degree one to four
 abbrev pub linear : ℤ → ℤ → ℤ → ℤ → ℤ
 linear a b x y = x *ℤ a +ℤ y *ℤ b
@@ -63,13 +70,7 @@ weights_of n = record {
 
 -- the differences of each row, and column p of what they are
 unfoldable pub slopes_of : Matrix5 → Matrix5
-slopes_of p = record {
-  r0 = differences_of p.r0;
-  r1 = differences_of p.r1;
-  r2 = differences_of p.r2;
-  r3 = differences_of p.r3;
-  r4 = differences_of p.r4;
-}
+slopes_of = each_row differences_of
 
 unfoldable pub columns_of : Matrix5 → Matrix5
 columns_of d = record {
@@ -81,13 +82,7 @@ columns_of d = record {
 }
 
 unfoldable pub scaled_of : Matrix5 → Matrix5 → Matrix5
-scaled_of g w = record {
-  r0 = weighted_of g.r0 w.r0;
-  r1 = weighted_of g.r1 w.r1;
-  r2 = weighted_of g.r2 w.r2;
-  r3 = weighted_of g.r3 w.r3;
-  r4 = weighted_of g.r4 w.r4;
-}
+scaled_of = both_rows weighted_of
 
 unfoldable pub polynomial_of : Matrix5 → ℤ → Matrix5
 polynomial_of p n = scaled_of (slopes_of (columns_of (slopes_of p))) (weights_of n)
@@ -109,17 +104,11 @@ unfoldable pub step_of : Vector5 → Vector5
 step_of g = vector5 (g.a +ℤ g.b) (g.b +ℤ g.c) (g.c +ℤ g.d) (g.d +ℤ g.e) g.e
 
 unfoldable pub steps_of : Matrix5 → Matrix5
-steps_of g = record { r0 = step_of g.r0; r1 = step_of g.r1; r2 = step_of g.r2; r3 = step_of g.r3; r4 = step_of g.r4 }
+steps_of = each_row step_of
 
 -- of five polynomials
 unfoldable pub states_of : Matrix5 → ℕ → Matrix5
-states_of c k = record {
-  r0 = state_of c.r0 k;
-  r1 = state_of c.r1 k;
-  r2 = state_of c.r2 k;
-  r3 = state_of c.r3 k;
-  r4 = state_of c.r4 k;
-}
+states_of c k = each_row (λ f. state_of f k) c
 
 -- the values of five states
 unfoldable pub firsts_of : Matrix5 → Vector5

@@ -2,20 +2,14 @@
 use Rattle.std.specs.Prelude.{ℤ, pos, ◌+ℤ◌, ◌-ℤ◌, ◌*ℤ◌}
 use Rattle.bernstein.specs.declared.Vector5.{Vector5}
 use Rattle.bernstein.specs.declared.Matrix5.{Matrix5}
-use Rattle.bernstein.specs.Sums.{vector5, linear, quadratic, cubic}
+use Rattle.bernstein.specs.Sums.{vector5, each_row, linear, quadratic, cubic}
 
 -- ---- the differences of control points, along the rows and from row to row
 abbrev pub steps_along : Vector5 → Vector5
 steps_along v = vector5 (v.b -ℤ v.a) (v.c -ℤ v.b) (v.d -ℤ v.c) (v.e -ℤ v.d) (pos 0)
 
 unfoldable pub along_rows : Matrix5 → Matrix5
-along_rows p = record {
-  r0 = steps_along p.r0;
-  r1 = steps_along p.r1;
-  r2 = steps_along p.r2;
-  r3 = steps_along p.r3;
-  r4 = steps_along p.r4;
-}
+along_rows = each_row steps_along
 
 abbrev pub steps_between : Vector5 → Vector5 → Vector5
 steps_between v w = vector5 (w.a -ℤ v.a) (w.b -ℤ v.b) (w.c -ℤ v.c) (w.d -ℤ v.d) (pos 0)
@@ -54,4 +48,4 @@ unfoldable pub slope_of : Vector5 → Vector5
 slope_of f = vector5 f.b (pos 2 *ℤ f.c) (pos 3 *ℤ f.d) (pos 4 *ℤ f.e) (pos 0)
 
 unfoldable pub inward_of : Matrix5 → Matrix5
-inward_of c = record { r0 = slope_of c.r0; r1 = slope_of c.r1; r2 = slope_of c.r2; r3 = slope_of c.r3; r4 = slope_of c.r4 }
+inward_of = each_row slope_of

@@ -10,22 +10,12 @@ pub fn along(c: Matrix5) -> Matrix5
     requires { AllSized (2 ^ 54) c }
     ensures { result ≡ along_of c }
 {
-    let r0 = c.r1;
-    let r1 = times(c.r2, 2);
-    let r2 = times(c.r3, 3);
-    let r3 = times(c.r4, 4);
     Matrix5 {
-        r0: r0,
-        r1: r1,
-        r2: r2,
-        r3: r3,
-        r4: Vector5 {
-            a: 0,
-            b: 0,
-            c: 0,
-            d: 0,
-            e: 0,
-        },
+        r0: c.r1,
+        r1: times(c.r2, 2),
+        r2: times(c.r3, 3),
+        r3: times(c.r4, 4),
+        r4: Vector5::ZERO,
     }
 }
 
@@ -34,18 +24,7 @@ pub fn inward(c: Matrix5) -> Matrix5
     requires { AllSized (2 ^ 54) c }
     ensures { result ≡ inward_of c }
 {
-    let r0 = slope(c.r0);
-    let r1 = slope(c.r1);
-    let r2 = slope(c.r2);
-    let r3 = slope(c.r3);
-    let r4 = slope(c.r4);
-    Matrix5 {
-        r0: r0,
-        r1: r1,
-        r2: r2,
-        r3: r3,
-        r4: r4,
-    }
+    c.map(slope)
 }
 
 // Each number times m.
@@ -72,6 +51,6 @@ fn slope(f: Vector5) -> Vector5
         b: 2 * f.c,
         c: 3 * f.d,
         d: 4 * f.e,
-        e: 0,
+        ..Vector5::ZERO
     }
 }

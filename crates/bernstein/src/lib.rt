@@ -21,8 +21,20 @@ pub struct Vector5 {
     pub e: i64,
 }
 
+impl Vector5 {
+    // Five zeros, which also fill a row after its points.
+    pub const ZERO: Vector5 = Vector5 {
+        a: 0,
+        b: 0,
+        c: 0,
+        d: 0,
+        e: 0,
+    };
+}
+
 // A matrix of five by five whole numbers, in rows. It has a triangle's control points; or the coefficients of a polynomial in two variables; or for each
 // row of these its value and its differences.
+// No one type for both, over the type of its five parts: r1.c says which of the two numbers is the row's, and b.c would not.
 #[derive(Clone, Copy)]
 pub struct Matrix5 {
     pub r0: Vector5,
@@ -30,6 +42,22 @@ pub struct Matrix5 {
     pub r2: Vector5,
     pub r3: Vector5,
     pub r4: Vector5,
+}
+
+impl Matrix5 {
+    // What f makes of each row.
+    fn map<F: Fn(Vector5) -> Vector5>(self, f: F) -> Matrix5
+        requires { F.pre f self.r0 × F.pre f self.r1 × F.pre f self.r2 × F.pre f self.r3 × F.pre f self.r4 }
+        ensures { F.post f self.r0 result.r0 × F.post f self.r1 result.r1 × F.post f self.r2 result.r2 × F.post f self.r3 result.r3 × F.post f self.r4 result.r4 }
+    {
+        Matrix5 {
+            r0: f(self.r0),
+            r1: f(self.r1),
+            r2: f(self.r2),
+            r3: f(self.r3),
+            r4: f(self.r4),
+        }
+    }
 }
 
 // The first of five numbers, and its first to fourth difference.
@@ -60,18 +88,7 @@ fn slopes(p: Matrix5) -> Matrix5
     requires { AllSized (2 ^ 31) p }
     ensures { result ≡ slopes_of p }
 {
-    let r0 = differences(p.r0);
-    let r1 = differences(p.r1);
-    let r2 = differences(p.r2);
-    let r3 = differences(p.r3);
-    let r4 = differences(p.r4);
-    Matrix5 {
-        r0: r0,
-        r1: r1,
-        r2: r2,
-        r3: r3,
-        r4: r4,
-    }
+    p.map(differences)
 }
 
 // Five numbers, each times its weight.
@@ -93,46 +110,29 @@ fn columns(d: Matrix5) -> Matrix5
     requires { AllSized (2 ^ 31) d }
     ensures { result ≡ columns_of d }
 {
-    let d0 = d.r0;
-    let d1 = d.r1;
-    let d2 = d.r2;
-    let d3 = d.r3;
-    let d4 = d.r4;
     Matrix5 {
-        r0: Vector5 {
-            a: d0.a,
-            b: d1.a,
-            c: d2.a,
-            d: d3.a,
-            e: d4.a,
-        },
+        r0: row(d),
         r1: Vector5 {
-            a: d0.b,
-            b: d1.b,
-            c: d2.b,
-            d: d3.b,
-            e: 0,
+            a: d.r0.b,
+            b: d.r1.b,
+            c: d.r2.b,
+            d: d.r3.b,
+            ..Vector5::ZERO
         },
         r2: Vector5 {
-            a: d0.c,
-            b: d1.c,
-            c: d2.c,
-            d: 0,
-            e: 0,
+            a: d.r0.c,
+            b: d.r1.c,
+            c: d.r2.c,
+            ..Vector5::ZERO
         },
         r3: Vector5 {
-            a: d0.d,
-            b: d1.d,
-            c: 0,
-            d: 0,
-            e: 0,
+            a: d.r0.d,
+            b: d.r1.d,
+            ..Vector5::ZERO
         },
         r4: Vector5 {
-            a: d0.e,
-            b: 0,
-            c: 0,
-            d: 0,
-            e: 0,
+            a: d.r0.e,
+            ..Vector5::ZERO
         },
     }
 }
@@ -142,17 +142,12 @@ fn scaled(g: Matrix5, w: Matrix5) -> Matrix5
     requires { AllSized (2 ^ 35) g × AllSized (2 ^ 16) w }
     ensures { result ≡ scaled_of g w }
 {
-    let r0 = weighted(g.r0, w.r0);
-    let r1 = weighted(g.r1, w.r1);
-    let r2 = weighted(g.r2, w.r2);
-    let r3 = weighted(g.r3, w.r3);
-    let r4 = weighted(g.r4, w.r4);
     Matrix5 {
-        r0: r0,
-        r1: r1,
-        r2: r2,
-        r3: r3,
-        r4: r4,
+        r0: weighted(g.r0, w.r0),
+        r1: weighted(g.r1, w.r1),
+        r2: weighted(g.r2, w.r2),
+        r3: weighted(g.r3, w.r3),
+        r4: weighted(g.r4, w.r4),
     }
 }
 
@@ -178,28 +173,22 @@ fn weights(n: usize) -> Matrix5
             b: 12 * m2,
             c: 12 * m,
             d: 4,
-            e: 0,
+            ..Vector5::ZERO
         },
         r2: Vector5 {
             a: 6 * m2,
             b: 12 * m,
             c: 6,
-            d: 0,
-            e: 0,
+            ..Vector5::ZERO
         },
         r3: Vector5 {
             a: 4 * m,
             b: 4,
-            c: 0,
-            d: 0,
-            e: 0,
+            ..Vector5::ZERO
         },
         r4: Vector5 {
             a: 1,
-            b: 0,
-            c: 0,
-            d: 0,
-            e: 0,
+            ..Vector5::ZERO
         },
     }
 }
@@ -249,8 +238,7 @@ pub fn start(p: Matrix5, n: usize) -> Matrix5
     requires { AllSized (2 ^ 27) p × (n ≤ 16) }
     ensures { result ≡ states_of (polynomial_of p (pos n)) 0 }
 {
-    let c = polynomial(p, n);
-    states(c)
+    states(polynomial(p, n))
 }
 
 // The same of any polynomial: of each row its value and its differences at 0.
@@ -258,18 +246,7 @@ pub fn states(c: Matrix5) -> Matrix5
     requires { AllSized (2 ^ 54) c }
     ensures { result ≡ states_of c 0 }
 {
-    let r0 = ahead(c.r0);
-    let r1 = ahead(c.r1);
-    let r2 = ahead(c.r2);
-    let r3 = ahead(c.r3);
-    let r4 = ahead(c.r4);
-    Matrix5 {
-        r0: r0,
-        r1: r1,
-        r2: r2,
-        r3: r3,
-        r4: r4,
-    }
+    c.map(ahead)
 }
 
 // The same at the next k.
@@ -277,18 +254,7 @@ pub fn next(s: Matrix5) -> Matrix5
     requires { AllSized (2 ^ 60) s }
     ensures { result ≡ steps_of s }
 {
-    let r0 = step(s.r0);
-    let r1 = step(s.r1);
-    let r2 = step(s.r2);
-    let r3 = step(s.r3);
-    let r4 = step(s.r4);
-    Matrix5 {
-        r0: r0,
-        r1: r1,
-        r2: r2,
-        r3: r3,
-        r4: r4,
-    }
+    s.map(step)
 }
 
 // The coefficients at this k: a polynomial in j.
@@ -296,17 +262,12 @@ pub fn row(s: Matrix5) -> Vector5
     requires { AllSized (2 ^ 60) s }
     ensures { result ≡ firsts_of s }
 {
-    let s0 = s.r0;
-    let s1 = s.r1;
-    let s2 = s.r2;
-    let s3 = s.r3;
-    let s4 = s.r4;
     Vector5 {
-        a: s0.a,
-        b: s1.a,
-        c: s2.a,
-        d: s3.a,
-        e: s4.a,
+        a: s.r0.a,
+        b: s.r1.a,
+        c: s.r2.a,
+        d: s.r3.a,
+        e: s.r4.a,
     }
 }
 
@@ -315,10 +276,10 @@ pub fn rounded(s: i64, n: usize) -> i32
     requires { (1 ≤ n) × (n ≤ 16) × (nat_abs s ≤ 2 ^ 27 * n ^ 4) }
     ensures { result ≡ round s (pos (n ^ 4)) }
 {
-    let q = quotient(s, n);
-    q as i32
+    quotient(s, n) as i32
 }
 
+// Sixteen divisions, since each has its divisor as a number: the compiler makes a product of it (rounding.rt).
 fn quotient(s: i64, n: usize) -> i64
     requires { (1 ≤ n) × (n ≤ 16) × (nat_abs s ≤ 2 ^ 43) }
     ensures { result ≡ round s (pos (n ^ 4)) }
@@ -348,8 +309,7 @@ pub fn row_at(p: Matrix5, k: usize, n: usize) -> Vector5
     requires { AllSized (2 ^ 27) p × (k ≤ 16) × (n ≤ 16) }
     ensures { result ≡ row_of (polynomial_of p (pos n)) k }
 {
-    let c = polynomial(p, n);
-    row_in(c, k)
+    row_in(polynomial(p, n), k)
 }
 
 // A polynomial in the second weight alone, for the third weight k.
@@ -357,30 +317,23 @@ pub fn row_in(c: Matrix5, k: usize) -> Vector5
     requires { AllTapered c × (k ≤ 16) }
     ensures { result ≡ row_of c k }
 {
-    let a = value_at(c.r0, k);
-    let b = value_at(c.r1, k);
-    let d = value_at(c.r2, k);
-    let e = value_at(c.r3, k);
-    let f = value_at(c.r4, k);
     Vector5 {
-        a: a,
-        b: b,
-        c: d,
-        d: e,
-        e: f,
+        a: value_at(c.r0, k),
+        b: value_at(c.r1, k),
+        c: value_at(c.r2, k),
+        d: value_at(c.r3, k),
+        e: value_at(c.r4, k),
     }
 }
 
-// Its value and its differences at j.
+// Its value and its differences at j. The invariant speaks of x, the place of g.
 pub fn state_at(e: Vector5, j: usize) -> Vector5
     requires { Tapered (5 * 2 ^ 34) e × (j ≤ 16) }
     ensures { result ≡ state_of e j }
 {
     let mut g = ahead(e);
-    let mut x = 0;
-    while x < j {
+    for x in 0..j {
         g = step(g);
-        x += 1;
     }
     g
 }

@@ -1,5 +1,7 @@
 -- The ways out of the report, as laws over pages; how many rows its tables have.
+use Rattle.std.specs.Prelude.{Ok, Err}
 use mathlib.Core.Path.{◌≡◌, sym, ap, ◌∙◌}
+use mathlib.Core.List.{List}
 use mathlib.Core.Logic.{⊎_elim}
 use Prim.Native.Nat.{ℕ, ◌+◌, ◌*◌, ◌<◌, ◌≤◌, max}
 use native.Mathlib.Omega.{arith}
@@ -11,24 +13,22 @@ use Rattle.paper.specs.Scan.{values_from}
 use Rattle.paper.specs.Mesh.{Mesh, corner_count, most_corners}
 use Rattle.paper.specs.Faults.{Verdict, sound, fault}
 use Rattle.paper.specs.Report.{page_with, conditions, largest_miss, added, page_verdict, Offered, mesh_in, verdict_in, page_after, ReportedTo}
-use Rattle.paper.specs.declared.Answer.TheVariants.{Done, Refused}
 use Rattle.paper.specs.declared.Page.{Page}
 use Rattle.mesh.specs.Tables.{small_mesh, large_mesh, TableRows}
 use Rattle.mesh.proofs.Scans.{ways}
 use Rattle.surface.specs.Points.{point_row}
-use Rattle.pages.specs.four.Four.{in_misses}
-use Rattle.pages.specs.declared.four.Misses.{Misses}
 use Rattle.pages.proofs.Lists.{values_equal}
+use Rattle.paper.specs.declared.Refusal.{Refusal}
 
 -- a mesh whose checks give a fault, and an accepted one
 pub refused_added : (P : Page) (M : Mesh) (v : Verdict) (r : Page) (k p : ℕ) → ((M : Mesh) (p : ℕ) → r ≡ added P M (fault k p)) → fault k p ≡ v → r ≡
     added P M v
 refused_added P M v r k p e q = e M p ∙ ap (added P M) q
 
-pub accepted_added : (P : Page) (M : Mesh) (v : Verdict) (r : Page) (m : Misses) → v ≡ sound
+pub accepted_added : (P : Page) (M : Mesh) (v : Verdict) (r : Page) (m : List ℕ) → v ≡ sound
     → r ≡ page_with (P.meshes + 1) (P.corners + corner_count M) (P.borders + 2 * corner_count M) P.refusals
-    (values_from (λ j. max (get_or P.misses j 0) (in_misses m j)) 0 conditions)
-    → ((j : ℕ) → j < conditions → in_misses m j ≡ largest_miss M j) → r ≡ added P M v
+    (values_from (λ j. max (get_or P.misses j 0) (get_or m j 0)) 0 conditions)
+    → ((j : ℕ) → j < conditions → get_or m j 0 ≡ largest_miss M j) → r ≡ added P M v
 unfolding added
 accepted_added P M v r m s e h =
     rw s
@@ -38,11 +38,10 @@ accepted_added P M v r m s e h =
 
 -- a call
 module _ (P : Page) (F : Offered) where
-  pub refused_report : (k p : ℕ) → fault k p ≡ page_verdict P → ReportedTo P F (record { answer = Refused k p; page = P })
-  unfolding page_after
-  refused_report k p e = record { answers = e; holds = rw (← e) }
+  pub refused_report : (r : Refusal) → fault r.number r.place ≡ page_verdict P → ReportedTo P F (Err r)
+  refused_report r e = record { answers = e; holds = tt }
 
-  pub done_report : (N : Page) → page_verdict P ≡ sound → N ≡ added P (mesh_in F) (verdict_in F) → ReportedTo P F (record { answer = Done; page = N })
+  pub done_report : (N : Page) → page_verdict P ≡ sound → N ≡ added P (mesh_in F) (verdict_in F) → ReportedTo P F (Ok N)
   unfolding page_after
   done_report N e n = record { answers = sym e; holds = rw e n }
 

@@ -1,7 +1,7 @@
 // L14: the largest misses across the borders of a mesh. Each border counts once: sides 0 and 1 of each corner. The output for all corners is too
 // large for the stack, so that the quad-nets are made face by face: those of a face's corners stand side by side, and for each corner that of its link
 // is made besides.
-ghost use Rattle.std.specs.Prelude.{◌≡◌, ℕ, ◌+◌, ◌*◌, ◌<◌, ◌≤◌, length};
+ghost use Rattle.std.specs.Prelude.{◌≡◌, ℕ, ◌+◌, ◌*◌, ◌<◌, ◌≤◌, length, get_or, pos};
 ghost use Rattle.paper.specs.Net.{net_points};
 ghost use Rattle.paper.specs.Calls.{per_corner};
 ghost use Rattle.paper.specs.Report.{conditions, largest_below};
@@ -12,39 +12,33 @@ ghost use Rattle.net_rows.specs.sides.Values.{SideSized};
 ghost use Rattle.net.specs.Drawn.{drawn, Drawn};
 ghost use Rattle.net.specs.stencil.Taken.{Run, FaceTaken};
 ghost use Rattle.building.specs.writing.Written.{Faced, NetsWritten};
-ghost use Rattle.pages.specs.four.Four.{in_misses};
-ghost use Rattle.border_report.specs.misses.Row.{in_row, SmallRow};
+ghost use Rattle.border_report.specs.misses.Row.{SmallRow};
 ghost use Rattle.border_report.specs.border_misses.Held.{point_in, SmallOn, NetHeldAll, WholeFace, FaceKept, corner_miss, AxisMisses, four_of};
 
-use crate::misses::{FourPoints, wide};
 use net::STENCIL;
 use numbers::cosines;
-use pages::four::Misses;
-use paper::{MOST_SIDES, NUMBERS_PER_CORNER};
+use paper::{CONDITIONS, MOST_SIDES, NUMBERS_PER_CORNER};
 use walk::Walker;
 
 // The numbers of the corners of a face, at most.
 const FACE_NUMBERS: usize = MOST_SIDES * NUMBERS_PER_CORNER;
 
 // The largest miss of each condition over all borders of n corners.
-pub(crate) fn largest(points: &[i32], table: &[u16], n: usize) -> Misses
+pub(crate) fn largest(points: &[i32], table: &[u16], n: usize) -> [u64; CONDITIONS]
     requires { Drawn n table.now points.now × Faced n table.now }
-    ensures { (j : ℕ) → j < conditions → in_misses result j ≡ largest_below n (corner_miss (drawn n table.now points.now) j) }
+    ensures { (j : ℕ) → j < conditions → get_or result j 0 ≡ largest_below n (corner_miss (drawn n table.now points.now) j) }
 {
     let rows = cosines::rows();
     let mut face = [0i32; FACE_NUMBERS];
-    let mut most = Misses {
-        first: 0,
-        second: 0,
-        third: 0,
-        fourth: 0,
-    };
+    let mut most = [0u64; CONDITIONS];
     let mut start = 0;
+    // From face to face: each has a count of its own.
     while start < n {
         let first = Walker { corner: start };
         let k = first.sides(table);
         building::writing::write_corners(points, table, &rows, n, start, k, &mut face);
-        most = face_misses(points, table, &rows, n, start, k, &face, most);
+        let larger = face_misses(points, table, &rows, n, start, k, &face, most);
+        most = larger;
         start += k;
     }
     most
@@ -60,20 +54,19 @@ fn face_misses(
     start: usize,
     k: usize,
     face: &[i32],
-    before: Misses,
-) -> Misses
+    before: [u64; CONDITIONS],
+) -> [u64; CONDITIONS]
     requires mesh { Drawn n table.now points.now × Faced n table.now × (rows.now ≡ stored) }
     requires face { WholeFace table.now n start k }
     requires numbers { (per_corner * k ≤ length face.now) × NetsWritten (drawn n table.now points.now) start k face.now }
-    requires before { (j : ℕ) → j < conditions → in_misses before j ≡ largest_below start (corner_miss (drawn n table.now points.now) j) }
-    ensures { (j : ℕ) → j < conditions → in_misses result j ≡ largest_below (start + k) (corner_miss (drawn n table.now points.now) j) }
+    requires before { (j : ℕ) → j < conditions → get_or before j 0 ≡ largest_below start (corner_miss (drawn n table.now points.now) j) }
+    ensures { (j : ℕ) → j < conditions → get_or result j 0 ≡ largest_below (start + k) (corner_miss (drawn n table.now points.now) j) }
 {
     let mut linked = [0i32; NUMBERS_PER_CORNER];
     let mut stencil = [0i32; STENCIL];
     net::stencil::take_face(points, table, rows, n, start, k, &mut stencil);
     let mut most = before;
-    let mut j = 0;
-    while j < k {
+    for j in 0..k {
         let at = Walker { corner: start + j };
         let l = at.linked(table);
         building::writing::write_corners(points, table, rows, n, l.corner, 1, &mut linked);
@@ -91,8 +84,8 @@ fn face_misses(
             next,
             &mut stencil,
         );
-        most = pages::four::larger_of(most, m);
-        j += 1;
+        let larger = pages::larger_of(most, m);
+        most = larger;
     }
     most
 }
@@ -110,13 +103,13 @@ fn corner_misses(
     linked: &[i32],
     next: usize,
     stencil: &mut [i32],
-) -> Misses
+) -> [u64; CONDITIONS]
     requires mesh { Drawn n table.now points.now × (start + j < n) × (rows.now ≡ stored) }
     requires ring { Run table.now start (j + 1) × (length stencil.old ≡ 128) × FaceTaken (drawn n table.now points.now) start (j + 2) stencil.old stencil.old }
     requires here { NetHeldAll (drawn n table.now points.now) (start + j) face.now (per_corner * j) }
     requires linked { NetHeldAll (drawn n table.now points.now) (entry table.now to_link (start + j)) linked.now 0 }
     requires next { NetHeldAll (drawn n table.now points.now) (entry table.now to_next (start + j)) face.now next }
-    ensures misses { (i : ℕ) → i < conditions → in_misses result i ≡ corner_miss (drawn n table.now points.now) i (start + j) }
+    ensures misses { (i : ℕ) → i < conditions → get_or result i 0 ≡ corner_miss (drawn n table.now points.now) i (start + j) }
     ensures ring { FaceKept stencil.old stencil.new }
 {
     let c = start + j;
@@ -129,7 +122,7 @@ fn corner_misses(
     let x = axis_misses(a, 0, face, here, linked, next);
     let y = axis_misses(b, 1, face, here, linked, next);
     let z = axis_misses(d, 2, face, here, linked, next);
-    pages::four::larger_of(pages::four::larger_of(x, y), z)
+    pages::larger_of(pages::larger_of(x, y), z)
 }
 
 // The same on one axis, from the sides there.
@@ -140,7 +133,7 @@ fn axis_misses(
     here: usize,
     linked: &[i32],
     next: usize,
-) -> Misses
+) -> [u64; CONDITIONS]
     requires sides { SideSized sides.side0 × SideSized sides.side1 }
     requires numbers { (axis < 3) × SmallOn face.now here axis × SmallOn linked.now 0 axis × SmallOn face.now next axis }
     ensures { AxisMisses sides axis face.now here linked.now next result }
@@ -155,21 +148,29 @@ fn axis_misses(
     let own1 = row(face, here, axis, 40, 36, 32, 28);
     let other1 = row(face, next, axis, 40, 39, 38, 37);
     let across_next = crate::misses::side_misses(side1, outer1, own1, other1);
-    pages::four::larger_of(across_link, across_next)
+    pages::larger_of(across_link, across_next)
 }
 
 // Four points of a corner's numbers, from `at` on, on an axis.
-fn row(net: &[i32], at: usize, axis: usize, p: usize, q: usize, r: usize, s: usize) -> FourPoints
+fn row(
+    net: &[i32],
+    at: usize,
+    axis: usize,
+    p: usize,
+    q: usize,
+    r: usize,
+    s: usize,
+) -> [i64; CONDITIONS]
     requires net { SmallOn net.now at axis × (axis < 3) }
     requires places { (p < net_points) × (q < net_points) × (r < net_points) × (s < net_points) }
-    ensures { ((j : ℕ) → in_row result j ≡ four_of (point_in net.now at axis) p q r s j) × SmallRow result }
+    ensures { ((j : ℕ) → j < conditions → get_or result j (pos 0) ≡ four_of (point_in net.now at axis) p q r s j) × SmallRow result }
 {
-    FourPoints {
-        p0: point(net, at, axis, p),
-        p1: point(net, at, axis, q),
-        p2: point(net, at, axis, r),
-        p3: point(net, at, axis, s),
-    }
+    [
+        point(net, at, axis, p),
+        point(net, at, axis, q),
+        point(net, at, axis, r),
+        point(net, at, axis, s),
+    ]
 }
 
 // One of them.
@@ -177,5 +178,5 @@ fn point(net: &[i32], at: usize, axis: usize, k: usize) -> i64
     requires { SmallOn net.now at axis × (axis < 3) × (k < net_points) }
     ensures { (result ≡ point_in net.now at axis k) × WrittenSize result }
 {
-    wide(net[at + 3 * k + axis])
+    i64::from(net[at + 3 * k + axis])
 }

@@ -7,7 +7,7 @@ pub mod misses;
 pub mod page_laws;
 
 ghost use Rattle.std.specs.Prelude.{◌≡◌, ◌*◌, ◌<◌, ◌≤◌, length};
-ghost use Rattle.paper.specs.Mesh.{mesh_of, most_corners};
+ghost use Rattle.paper.specs.Mesh.{most_corners, of_lists};
 ghost use Rattle.paper.specs.Faults.{sound, verdict};
 ghost use Rattle.paper.specs.File.{file_mesh, file_verdict};
 ghost use Rattle.paper.specs.Report.{added, page_verdict, offered, ReportedTo};
@@ -17,28 +17,18 @@ ghost use Rattle.dms_lists.specs.header.ListsWithin.{ListsWithin};
 ghost use Rattle.dms_lists.specs.lists.Room.{Room};
 ghost use Rattle.checks.specs.Checked.{RowsFor};
 
-use mesh::{SMALL_MESH, least};
-use paper::{Answer, MOST_CORNERS, MOST_FACES, MOST_NUMBERS, MOST_PAIRS, Page, Reported};
+use mesh::SMALL_MESH;
+use paper::{MOST_CORNERS, MOST_FACES, MOST_NUMBERS, MOST_PAIRS, MeshLists, Page, Refusal};
 use surface::POINT_ROW;
 use walk::ROW;
 
-// The page after one file more, from the bytes read and the length counted, or the page as it was.
-pub fn report(bytes: &[u8], counted: usize, page: Page) -> Reported
+// The page after one file more, from the bytes read and the length counted.
+pub fn report(bytes: &[u8], counted: usize, page: Page) -> Result<Page, Refusal>
     ensures { ReportedTo page (offered bytes.now counted) result }
 {
-    let a = pages::check(page);
-    if let Answer::Refused(k, p) = a {
-        return Reported {
-            answer: Answer::Refused(k, p),
-            page: page,
-        };
-    }
-    let held = least(bytes.len(), counted);
-    let next = with_file(&bytes[..held], counted, page);
-    Reported {
-        answer: Answer::Done,
-        page: next,
-    }
+    pages::check(page)?;
+    let held = bytes.len().min(counted);
+    Ok(with_file(&bytes[..held], counted, page))
 }
 
 // The page after the file itself: its header is checked first.
@@ -46,11 +36,10 @@ fn with_file(file: &[u8], counted: usize, page: Page) -> Page
     requires { page_verdict page ≡ sound }
     ensures { result ≡ added page (file_mesh file.now) (file_verdict file.now counted) }
 {
-    let header = dms_lists::header::check_header(file, counted);
-    if let Answer::Refused(number, place) = header {
-        return pages::refuse(page, number);
+    match dms_lists::header::check_header(file, counted) {
+        Ok(()) => with_lists(file, page),
+        Err(refusal) => pages::refuse(page, refusal.number),
     }
-    with_lists(file, page)
 }
 
 // The same of a file whose header passes, with copies of its lists. They are short where the file has few vertices, faces and corners in all.
@@ -106,78 +95,40 @@ fn with_copies(
     let numbers = 3 * dms_lists::header::vertex_count(file);
     let faces = dms_lists::header::face_count(file);
     let count = dms_lists::header::corner_count(file);
-    with_mesh(
-        &coordinates[..numbers],
-        &sides[..faces],
-        &corners[..count],
-        &sharpness[..2 * count],
-        page,
-    )
+    let lists = MeshLists {
+        coordinates: &coordinates[..numbers],
+        sides: &sides[..faces],
+        corners: &corners[..count],
+        sharpness: &sharpness[..2 * count],
+    };
+    with_mesh(lists, page)
 }
 
 // The same of the lists of a mesh, with tables of its own.
-fn with_mesh(
-    coordinates: &[i32],
-    sides: &[u8],
-    corners: &[u16],
-    sharpness: &[u8],
-    page: Page,
-) -> Page
+fn with_mesh(lists: MeshLists, page: Page) -> Page
     requires { page_verdict page ≡ sound }
-    ensures { result ≡ added page (mesh_of coordinates.now sides.now corners.now sharpness.now) (verdict (mesh_of coordinates.now sides.now corners.now sharpness.now)) }
+    ensures { result ≡ added page (of_lists lists.entry) (verdict (of_lists lists.entry)) }
 {
-    if mesh::table_rows(corners.len()) == SMALL_MESH {
+    if mesh::table_rows(lists.corners.len()) == SMALL_MESH {
         let mut table = [0u16; ROW * SMALL_MESH];
         let mut points = [0i32; POINT_ROW * SMALL_MESH];
-        return over(
-            coordinates,
-            sides,
-            corners,
-            sharpness,
-            page,
-            &mut table,
-            &mut points,
-        );
+        return over(lists, page, &mut table, &mut points);
     }
     let mut table = [0u16; ROW * MOST_CORNERS];
     let mut points = [0i32; POINT_ROW * MOST_CORNERS];
-    over(
-        coordinates,
-        sides,
-        corners,
-        sharpness,
-        page,
-        &mut table,
-        &mut points,
-    )
+    over(lists, page, &mut table, &mut points)
 }
 
 // The same over lent tables. A refused mesh adds one under its number; an accepted one its corners, its borders and its misses.
-fn over(
-    coordinates: &[i32],
-    sides: &[u8],
-    corners: &[u16],
-    sharpness: &[u8],
-    page: Page,
-    table: &mut [u16],
-    points: &mut [i32],
-) -> Page
+fn over(lists: MeshLists, page: Page, table: &mut [u16], points: &mut [i32]) -> Page
     requires page { page_verdict page ≡ sound }
-    requires table { RowsFor (length corners.now) table.old }
-    requires points { (length corners.now ≤ most_corners → point_row * length corners.now ≤ length points.old) × SmallPoints points.old }
-    ensures { result ≡ added page (mesh_of coordinates.now sides.now corners.now sharpness.now) (verdict (mesh_of coordinates.now sides.now corners.now sharpness.now)) }
+    requires table { RowsFor (length lists.corners.now) table.old }
+    requires points { (length lists.corners.now ≤ most_corners → point_row * length lists.corners.now ≤ length points.old) × SmallPoints points.old }
+    ensures { result ≡ added page (of_lists lists.entry) (verdict (of_lists lists.entry)) }
 {
-    let a = checks::check_within(coordinates, sides, corners, sharpness, table);
-    if let Answer::Refused(number, place) = a {
-        return pages::refuse(page, number);
+    if let Err(refusal) = checks::check_within(lists, table) {
+        return pages::refuse(page, refusal.number);
     }
-    let largest = crate::mesh_misses::largest(
-        coordinates,
-        sides,
-        corners,
-        sharpness,
-        table,
-        points,
-    );
-    pages::accept(page, corners.len(), largest)
+    let largest = crate::mesh_misses::largest(lists, table, points);
+    pages::accept(page, lists.corners.len(), largest)
 }

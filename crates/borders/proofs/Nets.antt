@@ -8,20 +8,19 @@ use lib.IntN.{ℤ, pos, nat_abs}
 use lib.ListN.{length, get_or, take, drop, length-take, length-drop}
 use lib.Seq.{get_or-take, get_or-drop}
 use Rattle.paper.specs.Mesh.{Mesh, corner_count}
-use Rattle.paper.specs.Faults.{sound}
+use Rattle.paper.specs.Faults.{sound, done}
 use Rattle.paper.specs.Numbers.{rounded}
 use Rattle.paper.specs.Refined.{refined_of}
 use Rattle.paper.specs.Calls.{per_corner, number_at, nets, Built}
 use Rattle.paper.specs.Floats.{net_verdict}
 use Rattle.paper.specs.Claims.{NetsPass}
-use Rattle.paper.specs.declared.Answer.TheVariants.{Done}
 use Rattle.mesh.proofs.Links.{values_length}
 use Rattle.mesh.proofs.NetLists.{passes}
 use Rattle.surface.proofs.Sizes.{net_size}
 use Rattle.surface.proofs.Hull.{corners_sound, points_small}
 use Rattle.surface.proofs.Call.{accepted, range, number_written}
 
-module _ (M : Mesh) (links : List ℕ) (first count : ℕ) (old out : List ℤ) (w : Built M links first count old Done out) where
+module _ (M : Mesh) (links : List ℕ) (first count : ℕ) (old out : List ℤ) (w : Built M links first count old done out) where
   length_out : length out ≡ per_corner * count
   unfolding nets
   length_out = ap (λ (o : List ℤ). length o) w.holds ∙ values_length (number_at rounded M first) 0 (per_corner * count)

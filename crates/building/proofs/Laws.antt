@@ -6,11 +6,10 @@ use native.Mathlib.Omega.{arith}
 use lib.ListN.{length, replicate, length-replicate}
 use lib.IntN.{ℤ, pos}
 use Rattle.paper.specs.Mesh.{most_corners, Mesh, corner_count, face_count}
-use Rattle.paper.specs.Faults.{sound, fault, Accepted, verdict}
+use Rattle.paper.specs.Faults.{sound, fault, Accepted, verdict, done}
 use Rattle.paper.specs.Calls.{Built, nets}
-use Rattle.paper.specs.declared.Answer.TheVariants.{Done, Refused}
 use Rattle.mesh.proofs.Accepted.{sound_of, few_corners}
-use Rattle.mesh.proofs.Verdicts.{or_else_fault, past}
+use Rattle.mesh.proofs.Verdicts.{or_else_fault, past, refusing}
 use Rattle.surface.specs.Points.{point_row}
 use Rattle.corner_points.specs.RefinedPoints.{SmallPoints}
 use Rattle.refine.proofs.Points.{small_zeros}
@@ -26,18 +25,18 @@ few M a = few_corners (length M.coordinates) (face_count M) (corner_count M) (so
 
 -- ---- the ways out of building
 module _ (M : Mesh) (links : List ℕ) (first count : ℕ) (old : List ℤ) where
-  pub mesh_refused : (k p : ℕ) → fault k p ≡ verdict M → Built M links first count old (Refused k p) old
+  pub mesh_refused : (k p : ℕ) → fault k p ≡ verdict M → Built M links first count old (refusing k p) old
   mesh_refused k p e =
       record { answers = sym (or_else_fault k p _ (sym e)) ∙ sym (verdict_is M links first count (length old)); holds = refl }
 
   module _ (a : Accepted M) where
-    pub links_refused : (k p : ℕ) → fault k p ≡ links_faults M links → Built M links first count old (Refused k p) old
+    pub links_refused : (k p : ℕ) → fault k p ≡ links_faults M links → Built M links first count old (refusing k p) old
     links_refused k p e =
         record { answers = past a _ (sym (or_else_fault k p _ (sym e))) ∙ sym (verdict_is M links first count (length old)); holds = refl }
 
     module _ (b : links_faults M links ≡ sound) where
-      pub range_refused : (k p : ℕ) → fault k p ≡ range_faults M first count (length old) → Built M links first count old (Refused k p) old
+      pub range_refused : (k p : ℕ) → fault k p ≡ range_faults M first count (length old) → Built M links first count old (refusing k p) old
       range_refused k p e = record { answers = past a _ (past b _ e) ∙ sym (verdict_is M links first count (length old)); holds = refl }
 
-      pub built : range_faults M first count (length old) ≡ sound → (out : List ℤ) → out ≡ nets M first count → Built M links first count old Done out
+      pub built : range_faults M first count (length old) ≡ sound → (out : List ℤ) → out ≡ nets M first count → Built M links first count old done out
       built e out w = record { answers = past a _ (past b _ (sym e)) ∙ sym (verdict_is M links first count (length old)); holds = w }

@@ -1,7 +1,7 @@
 // The numbers that building writes: the refined points of the corners at the vertices of the range's faces are computed once, and then the
 // quad-nets are written face by face, so that each part of the output is written once.
 ghost use Rattle.std.specs.Prelude.{◌≡◌, ℕ, ◌+◌, ◌*◌, ◌≤◌, ◌<◌, List, length};
-ghost use Rattle.paper.specs.Mesh.{mesh_of};
+ghost use Rattle.paper.specs.Mesh.{of_lists};
 ghost use Rattle.paper.specs.Corners.{sum_of, first_of, sides_of};
 ghost use Rattle.paper.specs.Faults.{Accepted};
 ghost use Rattle.paper.specs.Refined.{corners_of};
@@ -13,41 +13,23 @@ ghost use Rattle.corner_points.specs.RefinedPoints.{SmallPoints};
 ghost use Rattle.net.specs.Drawn.{drawn, Drawn};
 ghost use Rattle.building.specs.writing.Written.{WalksFaces, InFace, Faced, NetsDrawn, NetsWritten};
 
-use mesh::least;
 use numbers::cosines;
-use paper::{MOST_VERTICES, NUMBERS_PER_CORNER};
+use paper::{MOST_VERTICES, MeshLists, NUMBERS_PER_CORNER};
 use walk::Walker;
 
 // The refined points of which the nets of `count` corners from `first` on are made: those of the corners at the vertices of the range's faces.
-pub fn fill_range(
-    coordinates: &[i32],
-    sides: &[u8],
-    corners: &[u16],
-    sharpness: &[u8],
-    table: &[u16],
-    first: usize,
-    count: usize,
-    points: &mut [i32],
-)
-    requires mesh { Accepted (mesh_of coordinates.now sides.now corners.now sharpness.now) }
-    requires table { Tabled (corners_of (mesh_of coordinates.now sides.now corners.now sharpness.now)) table.now }
-    requires range { (0 < count) × (first + count ≤ length corners.now) }
-    requires points { (point_row * length corners.now ≤ length points.old) × SmallPoints points.old }
-    ensures { NetsDrawn (mesh_of coordinates.now sides.now corners.now sharpness.now) table.now points.new first count }
+pub fn fill_range(lists: MeshLists, table: &[u16], first: usize, count: usize, points: &mut [i32])
+    requires mesh { Accepted (of_lists lists) }
+    requires table { Tabled (corners_of (of_lists lists)) table.now }
+    requires range { (0 < count) × (first + count ≤ length lists.corners.now) }
+    requires points { (point_row * length lists.corners.now ≤ length points.old) × SmallPoints points.old }
+    ensures { NetsDrawn (of_lists lists.entry) table.now points.new first count }
 {
     let start = walk::face_start(table, first);
     let end = face_end(table, first + count - 1);
     let mut marked = [0u8; MOST_VERTICES];
-    refine::mark_vertices(corners, start, end - start, &mut marked);
-    refine::fill_points(
-        coordinates,
-        sides,
-        corners,
-        sharpness,
-        table,
-        &marked,
-        points,
-    );
+    refine::mark_vertices(lists.corners, start, end - start, &mut marked);
+    refine::fill_points(lists, table, &marked, points);
 }
 
 // The corner after the last one of a corner's face.
@@ -78,9 +60,10 @@ pub fn write_corners(
     let mut stencil = [0i32; net::STENCIL];
     let mut lanes = [0i32; net::LANES];
     let mut k = 0;
+    // From run to run: each ends with its face, or with the range.
     while k < count {
         let c = first + k;
-        let run = least(face_end(table, c) - c, count - k);
+        let run = (face_end(table, c) - c).min(count - k);
         let at = NUMBERS_PER_CORNER * k;
         net::put_run(
             points,

@@ -8,10 +8,8 @@ use lib.ListN.{length, replicate, length-replicate}
 use Rattle.paper.specs.Mesh.{Mesh, vertex_count, corner_count, most_vertices, most_corners}
 use Rattle.paper.specs.Links.{link}
 use Rattle.paper.specs.Refined.{corners_of}
-use Rattle.paper.specs.Faults.{Verdict, sound, fault, ◌or_else◌, lowest_of, fault8, fault10, fault11, fault12, fault13, list_faults}
+use Rattle.paper.specs.Faults.{Verdict, sound, fault, ◌or_else◌, lowest_of, fault8, fault10, fault11, fault12, fault13, list_faults, Answer}
 use Rattle.paper.specs.Faults.{link_faults, verdict, stated}
-use Rattle.paper.specs.declared.Answer.{Answer}
-use Rattle.paper.specs.declared.Answer.TheVariants.{Refused}
 use Rattle.mesh.specs.Closed.{Closed}
 use Rattle.mesh.proofs.Faces.{next_below, previous_below}
 use Rattle.mesh.proofs.Links.{link_in}
@@ -48,8 +46,9 @@ pub rowed : (M : Mesh) (vertices : List ℕ) → vertex_count M ≤ most_vertice
 rowed M vertices l r e c h =
     omega (arith, r l, named_of (vertex_count M) M.corners c (lowest_sound 8 (corner_count M) (fault8 (vertex_count M) M.corners) e c h))
 
-pub lists_refused : (M : Mesh) (table vertices : List ℕ) (k p : ℕ) → fault k p ≡ list_faults M → ListsChecked M (Refused k p) table vertices
-lists_refused M table vertices k p e = record { answers = e; ready = unsound k p; faced = unsound k p }
+pub lists_refused : (M : Mesh) (table vertices : List ℕ) (r : Answer) (k p : ℕ) → stated r ≡ fault k p → fault k p ≡ list_faults M
+    → ListsChecked M r table vertices
+lists_refused M table vertices r k p q e = record { answers = q ∙ e; ready = λ z. unsound k p (sym q ∙ z); faced = λ z. unsound k p (sym q ∙ z) }
 
 -- after 4 to 9 with 27 and 28
 pub listed : (M : Mesh) → list_faults M ≡ sound → Listed M
@@ -142,18 +141,18 @@ tabled M table vertices f t =
 
 -- ---- the ways out of the whole check
 module _ (M : Mesh) (table : List ℕ) where
-  stopped : (k p : ℕ) → fault k p ≡ verdict M → Checked M (Refused k p) table
-  stopped k p v = record { answers = v; tabled = λ a. unsound k p (v ∙ a) }
+  stopped : (r : Answer) (k p : ℕ) → stated r ≡ fault k p → fault k p ≡ verdict M → Checked M r table
+  stopped r k p q v = record { answers = q ∙ v; tabled = λ a. unsound k p (v ∙ a) }
 
-  pub stopped_lists : (k p : ℕ) → fault k p ≡ list_faults M → Checked M (Refused k p) table
+  pub stopped_lists : (r : Answer) (k p : ℕ) → stated r ≡ fault k p → fault k p ≡ list_faults M → Checked M r table
   unfolding verdict
-  stopped_lists k p e = stopped k p (sym (or_else_fault k p (link_faults M) (sym e)))
+  stopped_lists r k p q e = stopped r k p q (sym (or_else_fault k p (link_faults M) (sym e)))
 
   module _ (e : list_faults M ≡ sound) where
-    pub stopped_edges : (k p : ℕ) → fault k p ≡ edge_faults M → Checked M (Refused k p) table
+    pub stopped_edges : (r : Answer) (k p : ℕ) → stated r ≡ fault k p → fault k p ≡ edge_faults M → Checked M r table
     unfolding verdict link_faults
-    stopped_edges k p f =
-        stopped k p (sym (or_else_sound (link_faults M) e ∙ sym (or_else_assoc _ _ _) ∙ or_else_fault k p _ (sym f)))
+    stopped_edges r k p q f =
+        stopped r k p q (sym (or_else_sound (link_faults M) e ∙ sym (or_else_assoc _ _ _) ∙ or_else_fault k p _ (sym f)))
 
     pub checked : (r : Answer) → edge_faults M ≡ sound
         → stated r ≡ lowest_of 12 (vertex_count M) (fault12 M.corners) or_else lowest_of 13 (vertex_count M) (fault13 M.sides M.corners)

@@ -1,9 +1,8 @@
 -- What the shared check of 4 to 13 with 27 and 28 asks and answers, and what its tables hold.
 use Rattle.std.specs.Prelude.{◌≡◌, List, ℕ, ◌*◌, ◌≤◌, length}
 use Rattle.paper.specs.Mesh.{most_vertices, most_corners, Mesh, vertex_count, corner_count}
-use Rattle.paper.specs.Faults.{sound, list_faults, verdict, Accepted, stated}
+use Rattle.paper.specs.Faults.{sound, list_faults, verdict, Accepted, stated, Answer}
 use Rattle.paper.specs.Refined.{corners_of}
-use Rattle.paper.specs.declared.Answer.{Answer}
 use Rattle.walk.specs.Table.{row_length, Blank, Tabled}
 use Rattle.checks.specs.columns.Vertices.{vertex_row}
 use Rattle.checks.specs.columns.Chain.{Ready}

@@ -35,9 +35,7 @@ pub fn count_corners(corners: &[u16], vertices: &mut [u16])
     requires { Countable corners.now vertices.old }
     ensures { CornersCounted corners.now vertices.new }
 {
-    let mut c = corners.len();
-    while c != 0 {
-        c -= 1;
+    for c in (0..corners.len()).rev() {
         let u = corners[c] as usize;
         let count = vertices[VERTEX_ROW * u + COUNT];
         vertices[VERTEX_ROW * u + COUNT] = count + 1;

@@ -13,7 +13,7 @@ ghost use Rattle.checks.specs.edges.Entries.{has, Searchable, ChainsFrom, HeadsF
 ghost use Rattle.checks.specs.edges.Entries.{MarkedFrom, CountedAt, Unmarked, EntryFor, Collected, EntriesFound, EdgesChecked};
 
 use crate::columns::{ARRIVING, COUNT, LAST, LEAVING, LOWEST, VERTEX_ROW};
-use paper::Answer;
+use paper::Refusal;
 use walk::{LINK, NEXT, PREVIOUS, ROW, VALENCE};
 
 // The entry of a corner whose leaving edge already left an earlier one, and of a corner whose leaving edge has no reverse.
@@ -22,17 +22,14 @@ const REPEATED: u16 = 8193;
 const ALONE: u16 = 8192;
 
 // Checks 10 and 11, of entries that are found: where both have passed, they are the links. Nearly every mesh passes by the highest entry alone.
-pub(crate) fn check_entries(corners: &[u16], table: &[u16]) -> Answer
+pub(crate) fn check_entries(corners: &[u16], table: &[u16]) -> Result<(), Refusal>
     requires { (length corners.now ≤ most_corners) × (row_length * length corners.now ≤ length table.now) }
     ensures { EdgesChecked corners.now table.now result }
 {
     if highest_entry(table, corners.len()) < ALONE {
-        return Answer::Done;
+        return Ok(());
     }
-    let a10 = refuse(table, corners.len(), REPEATED, 10);
-    if let Answer::Refused(k, p) = a10 {
-        return Answer::Refused(k, p);
-    }
+    refuse(table, corners.len(), REPEATED, 10)?;
     refuse(table, corners.len(), ALONE, 11)
 }
 
@@ -44,12 +41,10 @@ pub(crate) fn fill_links(corners: &[u16], count: usize, table: &mut [u16], verti
     requires clear { Clear vertices.old leaving_here × Clear vertices.old arriving_here × Clear vertices.old count_here }
     ensures { EntriesFound corners.now table.old table.new vertices.new }
 {
-    let mut u = 0;
-    while u < count {
+    for u in 0..count {
         let last = vertices[VERTEX_ROW * u + LAST];
         let n = mark(corners, table, u, last, vertices);
         collect(corners, vertices, u, last, n, table);
-        u += 1;
     }
 }
 
@@ -128,28 +123,21 @@ fn highest_entry(table: &[u16], count: usize) -> u16
     ensures { (c : ℕ) → c < count → entry table.now to_link c ≤ result }
 {
     let mut most: u16 = 0;
-    let mut c = 0;
-    while c < count {
-        let x = table[ROW * c + LINK];
-        if most < x {
-            most = x;
-        }
-        c += 1;
+    for c in 0..count {
+        most = most.max(table[ROW * c + LINK]);
     }
     most
 }
 
 // The lowest corner that has the entry, as the place of a fault.
-fn refuse(table: &[u16], count: usize, x: u16, number: u8) -> Answer
+fn refuse(table: &[u16], count: usize, x: u16, number: u8) -> Result<(), Refusal>
     requires { (count ≤ most_corners) × (row_length * count ≤ length table.now) }
     ensures { stated result ≡ lowest_of number count (has table.now x) }
 {
-    let mut c = 0;
-    while c < count {
+    for c in 0..count {
         if table[ROW * c + LINK] == x {
-            return Answer::Refused(number, c);
+            return Err(Refusal { number, place: c });
         }
-        c += 1;
     }
-    Answer::Done
+    Ok(())
 }

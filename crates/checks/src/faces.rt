@@ -9,7 +9,7 @@ ghost use Rattle.checks.specs.columns.Chain.{Ready};
 ghost use Rattle.checks.specs.columns.Filled.{FacesFilled};
 
 use crate::columns::{LAST, VERTEX_ROW};
-use paper::Answer;
+use paper::Refusal;
 use walk::{ROW, VALENCE};
 
 // Check 9: no corner names the vertex of an earlier corner of its face. The table of vertices holds one more than the last corner met of
@@ -20,7 +20,7 @@ pub(crate) fn check_faces(
     corners: &[u16],
     table: &mut [u16],
     vertices: &mut [u16],
-) -> Answer
+) -> Result<(), Refusal>
     requires mesh { (sum_of sides.now ≡ length corners.now) × (length corners.now ≤ most_corners) × ((f : ℕ) → f < length sides.now → least_sides ≤ get_or sides.now f 0) }
     requires room { (row_length * length corners.now ≤ length table.old) × Rowed corners.now vertices.old × Blank vertices.old }
     ensures answer { stated result ≡ lowest_of 9 (length corners.now) (fault9 sides.now corners.now) }
@@ -28,26 +28,25 @@ pub(crate) fn check_faces(
     ensures faces { stated result ≡ sound → FacesFilled sides.now table.new }
 {
     let mut start = 0;
-    let mut f = 0;
-    while f < sides.len() {
-        let count = sides[f] as usize;
+    for s in sides {
+        let count = *s as usize;
         let end = start + count;
         let mut before = end - 1;
-        let mut c = start;
-        while c < end {
+        for c in start..end {
             let u = corners[c] as usize;
             let last = vertices[VERTEX_ROW * u + LAST];
             if start < last as usize {
-                return Answer::Refused(9, c);
+                return Err(Refusal {
+                    number: 9,
+                    place: c,
+                });
             }
             crate::columns::put_corner(table, c, before, count);
             table[ROW * c + VALENCE] = last;
             vertices[VERTEX_ROW * u + LAST] = (c + 1) as u16;
             before = c;
-            c += 1;
         }
         start = end;
-        f += 1;
     }
-    Answer::Done
+    Ok(())
 }

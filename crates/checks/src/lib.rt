@@ -8,89 +8,61 @@ pub mod requests;
 pub mod vertices;
 
 ghost use Rattle.std.specs.Prelude.{◌≡◌, length};
-ghost use Rattle.paper.specs.Mesh.{mesh_of};
+ghost use Rattle.paper.specs.Mesh.{of_lists};
 ghost use Rattle.paper.specs.Faults.{verdict, stated};
 ghost use Rattle.checks.specs.Checked.{RowsFor, RoomFor, Checked, ListsChecked};
 
 use crate::columns::VERTEX_ROW;
 use mesh::SMALL_MESH;
-use paper::{Answer, MOST_CORNERS, MOST_VERTICES};
+use paper::{MOST_CORNERS, MOST_VERTICES, MeshLists, Refusal};
 use walk::ROW;
 
-// Checks 4 to 13 with 27 and 28, over a table of corners of its own.
-pub fn check(coordinates: &[i32], sides: &[u8], corners: &[u16], sharpness: &[u8]) -> Answer
-    ensures { stated result ≡ verdict (mesh_of coordinates.now sides.now corners.now sharpness.now) }
+// Checks 4 to 13 with 27 and 28, over a table of corners of its own. The two calls stay side by side here and below: with a table's length as a const
+// parameter there would be two calls just the same.
+pub fn check(lists: MeshLists) -> Result<(), Refusal>
+    ensures { stated result ≡ verdict (of_lists lists.entry) }
 {
-    if mesh::table_rows(corners.len()) == SMALL_MESH {
+    if mesh::table_rows(lists.corners.len()) == SMALL_MESH {
         let mut table = [0u16; ROW * SMALL_MESH];
-        check_within(coordinates, sides, corners, sharpness, &mut table)
+        check_within(lists, &mut table)
     } else {
         let mut table = [0u16; ROW * MOST_CORNERS];
-        check_within(coordinates, sides, corners, sharpness, &mut table)
+        check_within(lists, &mut table)
     }
 }
 
 // The same over a lent table: of an accepted mesh it is then the table of its corners. The table of vertices is scratch of its own.
-pub fn check_within(
-    coordinates: &[i32],
-    sides: &[u8],
-    corners: &[u16],
-    sharpness: &[u8],
-    table: &mut [u16],
-) -> Answer
-    requires { RowsFor (length corners.now) table.old }
-    ensures { Checked (mesh_of coordinates.now sides.now corners.now sharpness.now) result table.new }
+pub fn check_within(lists: MeshLists, table: &mut [u16]) -> Result<(), Refusal>
+    requires { RowsFor (length lists.corners.now) table.old }
+    ensures { Checked (of_lists lists.entry) result table.new }
 {
-    if mesh::table_rows(coordinates.len() / 3) == SMALL_MESH {
+    if mesh::table_rows(lists.coordinates.len() / 3) == SMALL_MESH {
         let mut vertices = [0u16; VERTEX_ROW * SMALL_MESH];
-        check_over(coordinates, sides, corners, sharpness, table, &mut vertices)
+        check_over(lists, table, &mut vertices)
     } else {
         let mut vertices = [0u16; VERTEX_ROW * MOST_VERTICES];
-        check_over(coordinates, sides, corners, sharpness, table, &mut vertices)
+        check_over(lists, table, &mut vertices)
     }
 }
 
 // The same over both tables.
-fn check_over(
-    coordinates: &[i32],
-    sides: &[u8],
-    corners: &[u16],
-    sharpness: &[u8],
-    table: &mut [u16],
-    vertices: &mut [u16],
-) -> Answer
-    requires { RoomFor (mesh_of coordinates.now sides.now corners.now sharpness.now) table.old vertices.old }
-    ensures { Checked (mesh_of coordinates.now sides.now corners.now sharpness.now) result table.new }
+fn check_over(lists: MeshLists, table: &mut [u16], vertices: &mut [u16]) -> Result<(), Refusal>
+    requires { RoomFor (of_lists lists) table.old vertices.old }
+    ensures { Checked (of_lists lists.entry) result table.new }
 {
-    let a = check_lists(coordinates, sides, corners, sharpness, table, vertices);
-    if let Answer::Refused(k, p) = a {
-        return Answer::Refused(k, p);
-    }
-    let count = coordinates.len() / 3;
-    crate::edges::fill_links(corners, count, table, vertices);
-    let b = crate::edges::check_entries(corners, table);
-    if let Answer::Refused(k, p) = b {
-        return Answer::Refused(k, p);
-    }
-    crate::vertices::check_vertices(corners, count, table, vertices)
+    check_lists(lists, table, vertices)?;
+    let count = lists.coordinates.len() / 3;
+    crate::edges::fill_links(lists.corners, count, table, vertices);
+    crate::edges::check_entries(lists.corners, table)?;
+    crate::vertices::check_vertices(lists.corners, count, table, vertices)
 }
 
 // Checks 4 to 9 with 27 and 28, of the lists themselves; the last of them leaves the chains of the vertices in the two tables, and the
 // columns of the faces in the first.
-pub fn check_lists(
-    coordinates: &[i32],
-    sides: &[u8],
-    corners: &[u16],
-    sharpness: &[u8],
-    table: &mut [u16],
-    vertices: &mut [u16],
-) -> Answer
-    requires { RoomFor (mesh_of coordinates.now sides.now corners.now sharpness.now) table.old vertices.old }
-    ensures { ListsChecked (mesh_of coordinates.now sides.now corners.now sharpness.now) result table.new vertices.new }
+pub fn check_lists(lists: MeshLists, table: &mut [u16], vertices: &mut [u16]) -> Result<(), Refusal>
+    requires { RoomFor (of_lists lists) table.old vertices.old }
+    ensures { ListsChecked (of_lists lists.entry) result table.new vertices.new }
 {
-    let a = list_checks::check(coordinates, sides, corners, sharpness);
-    if let Answer::Refused(k, p) = a {
-        return Answer::Refused(k, p);
-    }
-    crate::faces::check_faces(sides, corners, table, vertices)
+    list_checks::check(lists)?;
+    crate::faces::check_faces(lists.sides, lists.corners, table, vertices)
 }

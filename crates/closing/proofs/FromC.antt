@@ -29,7 +29,7 @@ pub counts_from_c : CountsFromC
 counts_from_c M links levels first count lent before after told call =
     let e : level_verdict M links first count levels ≡ sound = (leveled M links first count levels).none (sym call.answers.number) in
     let t : told ≡ sizes_of M levels first count = call.tells ∙ ap (λ (w : Verdict). kept w (sizes_of M levels first count) lent) e in
-    record { answers = sym e; points_length = ap (λ (z : Sizes). z.points) t; triangles_length = ap (λ (z : Sizes). z.triangles) t }
+    record { answers = sym e; lengths = (ap (λ (z : Sizes). z.points) t, ap (λ (z : Sizes). z.triangles) t) }
 
 pub triangles_from_c : TrianglesFromC
 triangles_from_c M links levels first count old old' lent before after points triangles told call =
@@ -38,8 +38,7 @@ triangles_from_c M links levels first count old old' lent before after points tr
     let t : told ≡ sizes_of M levels first count = call.tells ∙ ap (λ (w : Verdict). kept w (sizes_of M levels first count) lent) e in
     record {
       answers = sym e;
-      points_length = ap (λ (z : Sizes). z.points) t;
-      triangles_length = ap (λ (z : Sizes). z.triangles) t;
+      lengths = (ap (λ (z : Sizes). z.points) t, ap (λ (z : Sizes). z.triangles) t);
       points_hold = call.points_hold ∙ ap (λ (w : Verdict). kept w (begins (point_list M levels first count) old) old) e;
       triangles_hold = call.triangles_hold ∙ ap (λ (w : Verdict). kept w (begins (triangle_list M levels first count) old') old') e;
     }

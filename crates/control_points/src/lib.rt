@@ -9,102 +9,104 @@ ghost use Rattle.control_points.specs.Places.{b_place, a_place};
 
 use bernstein::{Matrix5, Vector5};
 
+// A side's triangle of a net, on an axis.
+#[derive(Clone, Copy)]
+struct Triangle<'a> {
+    numbers: &'a [i32],
+    side: usize,
+    axis: usize,
+    ghost net: { net_verdict numbers.now ≡ sound },
+    ghost within: { (side ≤ 3) × (axis < 3) },
+}
+
 // The 15 control points of a side's triangle on an axis, in rows from the side inwards and each row from the head.
 pub fn control_points(numbers: &[i32], side: usize, axis: usize) -> Matrix5
     requires { (net_verdict numbers.now ≡ sound) × (side ≤ 3) × (axis < 3) }
     ensures { result ≡ rows_of (control (on_axis numbers.now axis) (side_at side)) }
 {
-    let r0 = outer_row(numbers, side, axis);
-    let r1 = a_row(numbers, side, axis);
-    let r2 = inner_row(numbers, side, axis);
-    let r3 = Vector5 {
-        a: a_point(numbers, side, axis, 1, 0),
-        b: a_point(numbers, side, axis, 1, 1),
-        c: 0,
-        d: 0,
-        e: 0,
-    };
-    let r4 = Vector5 {
-        a: b_point(numbers, side, axis, 2, 0),
-        b: 0,
-        c: 0,
-        d: 0,
-        e: 0,
+    let t = Triangle {
+        numbers: numbers,
+        side: side,
+        axis: axis,
     };
     Matrix5 {
-        r0: r0,
-        r1: r1,
-        r2: r2,
-        r3: r3,
-        r4: r4,
+        r0: t.outer_row(),
+        r1: t.a_row(),
+        r2: t.inner_row(),
+        r3: Vector5 {
+            a: t.a_point(1, 0),
+            b: t.a_point(1, 1),
+            ..Vector5::ZERO
+        },
+        r4: Vector5 {
+            a: t.b_point(2, 0),
+            ..Vector5::ZERO
+        },
     }
 }
 
-// The five outer b points of the side.
-fn outer_row(numbers: &[i32], side: usize, axis: usize) -> Vector5
-    requires { (net_verdict numbers.now ≡ sound) × (side ≤ 3) × (axis < 3) }
-    ensures { result ≡ (rows_of (control (on_axis numbers.now axis) (side_at side))).r0 }
-{
-    Vector5 {
-        a: b_point(numbers, side, axis, 0, 0),
-        b: b_point(numbers, side, axis, 0, 1),
-        c: b_point(numbers, side, axis, 0, 2),
-        d: b_point(numbers, side, axis, 0, 3),
-        e: b_point(numbers, side, axis, 0, 4),
+impl<'a> Triangle<'a> {
+    // The five outer b points of the side.
+    fn outer_row(&self) -> Vector5
+        ensures { result ≡ (rows_of (control (on_axis self.now.numbers.now self.now.axis) (side_at self.now.side))).r0 }
+    {
+        Vector5 {
+            a: self.b_point(0, 0),
+            b: self.b_point(0, 1),
+            c: self.b_point(0, 2),
+            d: self.b_point(0, 3),
+            e: self.b_point(0, 4),
+        }
     }
-}
 
-// Its four a points.
-fn a_row(numbers: &[i32], side: usize, axis: usize) -> Vector5
-    requires { (net_verdict numbers.now ≡ sound) × (side ≤ 3) × (axis < 3) }
-    ensures { result ≡ (rows_of (control (on_axis numbers.now axis) (side_at side))).r1 }
-{
-    Vector5 {
-        a: a_point(numbers, side, axis, 0, 0),
-        b: a_point(numbers, side, axis, 0, 1),
-        c: a_point(numbers, side, axis, 0, 2),
-        d: a_point(numbers, side, axis, 0, 3),
-        e: 0,
+    // Its four a points.
+    fn a_row(&self) -> Vector5
+        ensures { result ≡ (rows_of (control (on_axis self.now.numbers.now self.now.axis) (side_at self.now.side))).r1 }
+    {
+        Vector5 {
+            a: self.a_point(0, 0),
+            b: self.a_point(0, 1),
+            c: self.a_point(0, 2),
+            d: self.a_point(0, 3),
+            ..Vector5::ZERO
+        }
     }
-}
 
-// Three b points of the next row.
-fn inner_row(numbers: &[i32], side: usize, axis: usize) -> Vector5
-    requires { (net_verdict numbers.now ≡ sound) × (side ≤ 3) × (axis < 3) }
-    ensures { result ≡ (rows_of (control (on_axis numbers.now axis) (side_at side))).r2 }
-{
-    Vector5 {
-        a: b_point(numbers, side, axis, 1, 0),
-        b: b_point(numbers, side, axis, 1, 1),
-        c: b_point(numbers, side, axis, 1, 2),
-        d: 0,
-        e: 0,
+    // Three b points of the next row.
+    fn inner_row(&self) -> Vector5
+        ensures { result ≡ (rows_of (control (on_axis self.now.numbers.now self.now.axis) (side_at self.now.side))).r2 }
+    {
+        Vector5 {
+            a: self.b_point(1, 0),
+            b: self.b_point(1, 1),
+            c: self.b_point(1, 2),
+            ..Vector5::ZERO
+        }
     }
-}
 
-// A b point of the triangle, by the row inwards and the place along it from the head.
-fn b_point(numbers: &[i32], side: usize, axis: usize, inward: usize, along: usize) -> i64
-    requires { (net_verdict numbers.now ≡ sound) × (axis < 3) × (side ≤ 3) × (2 * inward + along ≤ 4) }
-    ensures { (result ≡ on_axis numbers.now axis (b_place side inward along)) × (nat_abs result ≤ 2 ^ 27) }
-{
-    number(numbers, b_place(side, inward, along), axis)
-}
+    // A b point of the triangle, by the row inwards and the place along it from the head.
+    fn b_point(&self, inward: usize, along: usize) -> i64
+        requires { 2 * inward + along ≤ 4 }
+        ensures { (result ≡ on_axis self.now.numbers.now self.now.axis (b_place self.now.side inward along)) × (nat_abs result ≤ 2 ^ 27) }
+    {
+        self.number(b_place(self.side, inward, along))
+    }
 
-// An a point likewise.
-fn a_point(numbers: &[i32], side: usize, axis: usize, inward: usize, along: usize) -> i64
-    requires { (net_verdict numbers.now ≡ sound) × (axis < 3) × (side ≤ 3) × (2 * inward + along ≤ 3) }
-    ensures { (result ≡ on_axis numbers.now axis (a_place side inward along)) × (nat_abs result ≤ 2 ^ 27) }
-{
-    number(numbers, a_place(side, inward, along), axis)
-}
+    // An a point likewise.
+    fn a_point(&self, inward: usize, along: usize) -> i64
+        requires { 2 * inward + along ≤ 3 }
+        ensures { (result ≡ on_axis self.now.numbers.now self.now.axis (a_place self.now.side inward along)) × (nat_abs result ≤ 2 ^ 27) }
+    {
+        self.number(a_place(self.side, inward, along))
+    }
 
-// A point's number on an axis.
-fn number(numbers: &[i32], point: usize, axis: usize) -> i64
-    requires { (net_verdict numbers.now ≡ sound) × (axis < 3) × (point ≤ 40) }
-    ensures { (result ≡ on_axis numbers.now axis point) × (nat_abs result ≤ 2 ^ 27) }
-{
-    let z = numbers[3 * point + axis];
-    z as i64
+    // A point's number on the axis.
+    fn number(&self, point: usize) -> i64
+        requires { point ≤ 40 }
+        ensures { (result ≡ on_axis self.now.numbers.now self.now.axis point) × (nat_abs result ≤ 2 ^ 27) }
+    {
+        i64::from(self.numbers[3 * point + self.axis])
+    }
 }
 
 // Which of the 41 points that is. Sides 1 and 2 have their head at the end of the b rows, sides 1 and 3 run across the rows.

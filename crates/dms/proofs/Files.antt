@@ -1,22 +1,23 @@
 -- The ways out of surveying and decoding, as laws over lists: what each answers, and what the spaces then hold.
-use mathlib.Core.Path.{◌≡◌, ap, ◌∙◌, sym, subst}
-use mathlib.Core.List.{List}
+use mathlib.Core.Path.{◌≡◌, refl, ap, ◌∙◌, sym, subst}
+use mathlib.Core.List.{List, ◌++◌}
 use Prim.Native.Nat.{ℕ, ◌*◌, ◌<◌, ◌≤◌}
-use lib.ListN.{length, take}
+use lib.ListN.{length, take, drop}
 use lib.IntN.{ℤ}
 use borrow.Author.Tests.{lt-ltb, le-ltb, ltb-false}
 use Rattle.paper.specs.Mesh.{Mesh}
-use Rattle.paper.specs.Faults.{Verdict, sound, fault, single, ◌or_else◌, verdict}
+use Rattle.paper.specs.Faults.{Verdict, sound, fault, single, ◌or_else◌, verdict, Told}
 use Rattle.paper.specs.File.{vertices_in, faces_in, corners_in, file_mesh, header_verdict, file_verdict, no_room, Surveyed, begins, room_verdict, decode_verdict, DecodedTo}
-use Rattle.paper.specs.declared.Answer.TheVariants.{Done, Refused}
-use Rattle.paper.specs.declared.Summary.{Summary}
-use Rattle.paper.specs.declared.Decoded.{Decoded}
 use Rattle.mesh.proofs.Verdicts.{or_else_fault, or_else_sound, sound_left, sound_right, single_sound}
 use Rattle.dms_lists.specs.lists.Room.{Room, ListsRead}
 use Rattle.dms_lists.proofs.lists.Lists.{read_back_lem, file_coordinates, file_faces, file_corners, file_sharpness}
+use Rattle.paper.specs.declared.Refusal.{Refusal}
+use Rattle.std.specs.Prelude.{Ok, Err}
+use Rattle.paper.specs.declared.Counts.{Counts}
+use Rattle.paper.specs.declared.Lengths.{Lengths}
 
 -- ---- surveying
-pub later_survey : (M : Mesh) {w : Verdict} (v : Verdict) (r : Summary) → w ≡ sound → Surveyed M v r → Surveyed M (w or_else v) r
+pub later_survey : (M : Mesh) {w : Verdict} (v : Verdict) (r : Told Counts) → w ≡ sound → Surveyed M v r → Surveyed M (w or_else v) r
 later_survey M v r e s = subst (λ (x : Verdict). Surveyed M x r) (sym (or_else_sound v e)) s
 
 -- ---- decoding
@@ -76,6 +77,10 @@ pub lists_decide : (file : List ℕ) (counted : ℕ) (lent : Mesh) {v : Verdict}
 unfolding decode_verdict file_verdict
 lists_decide file counted lent h e = e ∙ ap (λ (w : Verdict). w or_else lent_room file lent) (sym (or_else_sound (verdict (file_mesh file)) h))
 
+-- the first n of a list, copied into the beginning of a lent space
+pub begun : {A : Type 0} (n : ℕ) (own new lent : List A) → n ≡ length (take n own) → new ≡ take n own → new ++ drop n lent ≡ begins (take n own) lent
+begun n own new lent l e = rw (e, ← l)
+
 -- the lists that were read, copied to the lent spaces
 pub lists_copied : (file : List ℕ) (n f k p : ℕ) (old own lent left : Mesh) → n ≡ 3 * vertices_in file → f ≡ faces_in file → k ≡ corners_in file
     → p ≡ 2 * corners_in file → ListsRead file old own → left.coordinates ≡ begins (take n own.coordinates) lent.coordinates
@@ -94,18 +99,16 @@ lists_copied file n f k p old own lent left q r s t h a b c d =
     }
 
 module _ (file : List ℕ) (counted : ℕ) (lent : Mesh) where
-  pub refused_decode : (r : Decoded) (k p : ℕ)
-      → (r.answer ≡ Refused k p) × (r.coordinates ≡ 0) × (r.sides ≡ 0) × (r.corners ≡ 0) × (r.sharpness ≡ 0)
-      → fault k p ≡ lent_verdict file counted lent → DecodedTo file counted lent r lent
-  refused_decode r k p q e = search q.0
+  pub refused_decode : (r : Refusal) → fault r.number r.place ≡ lent_verdict file counted lent → DecodedTo file counted lent (Err r) lent
+  refused_decode r e = record { answers = e; lengths = tt; coordinates_hold = refl; sides_hold = refl; corners_hold = refl; sharpness_hold = refl }
 
   pub done_decode : (n f k p : ℕ) (left : Mesh) → n ≡ 3 * vertices_in file → f ≡ faces_in file → k ≡ corners_in file → p ≡ 2 * corners_in file
       → sound ≡ lent_verdict file counted lent → ListsRead file lent left
-      → DecodedTo file counted lent (record { answer = Done; coordinates = n; sides = f; corners = k; sharpness = p }) left
+      → DecodedTo file counted lent (Ok (record { coordinates = n; sides = f; corners = k; sharpness = p })) left
   done_decode n f k p left q r s t e h =
       search (q ∙ file_coordinates file, r ∙ file_faces file, s ∙ file_corners file, t ∙ file_sharpness file)
 
 -- the bytes held are the file
-pub decode_held : (held file : List ℕ) (counted : ℕ) (lent : Mesh) (r : Decoded) (left : Mesh) → held ≡ file
+pub decode_held : (held file : List ℕ) (counted : ℕ) (lent : Mesh) (r : Told Lengths) (left : Mesh) → held ≡ file
     → DecodedTo held counted lent r left → DecodedTo file counted lent r left
 decode_held held file counted lent r left e d = subst (λ (l : List ℕ). DecodedTo l counted lent r left) e d

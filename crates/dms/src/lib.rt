@@ -9,18 +9,17 @@ ghost use Rattle.dms_lists.specs.header.ListsWithin.{ListsWithin};
 
 use dms_lists::header::{check_header, corner_count, face_count, vertex_count};
 use dms_lists::lists::read_lists;
-use dms_lists::refused;
-use mesh::least;
 use paper::{
-    Answer, Decoded, MOST_CORNERS, MOST_FACES, MOST_NUMBERS, MOST_PAIRS, NO_ROOM, Summary,
+    Counts, Lengths, MOST_CORNERS, MOST_FACES, MOST_NUMBERS, MOST_PAIRS, MeshLists, NO_ROOM,
+    Refusal,
 };
-use surveying::{no_counts, survey_lists};
+use surveying::survey_lists;
 
 // The counts of the file, from the bytes read and the length counted.
-pub fn survey(bytes: &[u8], counted: usize) -> Summary
+pub fn survey(bytes: &[u8], counted: usize) -> Result<Counts, Refusal>
     ensures { FileSurveyed (file_of bytes.now counted) counted result }
 {
-    let held = least(bytes.len(), counted);
+    let held = bytes.len().min(counted);
     survey_file(&bytes[..held], counted)
 }
 
@@ -32,29 +31,20 @@ pub fn decode(
     sides: &mut [u8],
     corners: &mut [u16],
     sharpness: &mut [u8],
-) -> Decoded
+) -> Result<Lengths, Refusal>
     ensures { DecodedTo (file_of bytes.now counted) counted (mesh_of coordinates.old sides.old corners.old sharpness.old) result (mesh_of coordinates.new sides.new corners.new sharpness.new) }
 {
-    let held = least(bytes.len(), counted);
+    let held = bytes.len().min(counted);
     let file = &bytes[..held];
-    let header = check_header(file, counted);
-    if let Answer::Refused(number, place) = header {
-        return refused(number, place);
-    }
+    check_header(file, counted)?;
     decode_lists(file, coordinates, sides, corners, sharpness)
 }
 
 // The same as `survey`, of the file itself.
-fn survey_file(file: &[u8], counted: usize) -> Summary
+fn survey_file(file: &[u8], counted: usize) -> Result<Counts, Refusal>
     ensures { FileSurveyed file.now counted result }
 {
-    let header = check_header(file, counted);
-    if let Answer::Refused(number, place) = header {
-        return Summary {
-            answer: Answer::Refused(number, place),
-            counts: no_counts(),
-        };
-    }
+    check_header(file, counted)?;
     survey_lists(file)
 }
 
@@ -65,7 +55,7 @@ fn decode_lists(
     sides: &mut [u8],
     corners: &mut [u16],
     sharpness: &mut [u8],
-) -> Decoded
+) -> Result<Lengths, Refusal>
     requires { ListsWithin file.now }
     ensures { (counted : ℕ) → header_verdict file.now counted ≡ sound → DecodedTo file.now counted (mesh_of coordinates.old sides.old corners.old sharpness.old) result (mesh_of coordinates.new sides.new corners.new sharpness.new) }
 {
@@ -82,58 +72,62 @@ fn decode_lists(
     let own_counts = &counts[..f];
     let own_names = &names[..k];
     let own_pairs = &pairs[..p];
-    let answer = checks::check(own_numbers, own_counts, own_names, own_pairs);
-    if let Answer::Refused(number, place) = answer {
-        return refused(number, place);
-    }
-    let room = check_room(
-        file,
-        coordinates.len(),
-        sides.len(),
-        corners.len(),
-        sharpness.len(),
-    );
-    if let Answer::Refused(number, place) = room {
-        return refused(number, place);
-    }
-    mesh::copy_words(own_numbers, coordinates);
-    mesh::copy_bytes(own_counts, sides);
-    mesh::copy_halves(own_names, corners);
-    mesh::copy_bytes(own_pairs, sharpness);
-    Decoded {
-        answer: Answer::Done,
+    checks::check(MeshLists {
+        coordinates: own_numbers,
+        sides: own_counts,
+        corners: own_names,
+        sharpness: own_pairs,
+    })?;
+    let lent = Lengths {
+        coordinates: coordinates.len(),
+        sides: sides.len(),
+        corners: corners.len(),
+        sharpness: sharpness.len(),
+    };
+    check_room(file, lent)?;
+    coordinates[..n].copy_from_slice(own_numbers);
+    sides[..f].copy_from_slice(own_counts);
+    corners[..k].copy_from_slice(own_names);
+    sharpness[..p].copy_from_slice(own_pairs);
+    Ok(Lengths {
         coordinates: n,
         sides: f,
         corners: k,
         sharpness: p,
-    }
+    })
 }
 
 // Whether spaces of these lengths have room for the lists.
-fn check_room(
-    file: &[u8],
-    coordinates: usize,
-    sides: usize,
-    corners: usize,
-    sharpness: usize,
-) -> Answer
+fn check_room(file: &[u8], lent: Lengths) -> Result<(), Refusal>
     requires { header_length ≤ length file.now }
-    ensures { stated result ≡ room_verdict file.now coordinates sides corners sharpness }
+    ensures { stated result ≡ room_verdict file.now lent.coordinates lent.sides lent.corners lent.sharpness }
 {
     let numbers = 3 * vertex_count(file);
-    if coordinates < numbers {
-        return Answer::Refused(NO_ROOM, numbers);
+    if lent.coordinates < numbers {
+        return Err(Refusal {
+            number: NO_ROOM,
+            place: numbers,
+        });
     }
     let faces = face_count(file);
-    if sides < faces {
-        return Answer::Refused(NO_ROOM, faces);
+    if lent.sides < faces {
+        return Err(Refusal {
+            number: NO_ROOM,
+            place: faces,
+        });
     }
     let count = corner_count(file);
-    if corners < count {
-        return Answer::Refused(NO_ROOM, count);
+    if lent.corners < count {
+        return Err(Refusal {
+            number: NO_ROOM,
+            place: count,
+        });
     }
-    if sharpness < 2 * count {
-        return Answer::Refused(NO_ROOM, 2 * count);
+    if lent.sharpness < 2 * count {
+        return Err(Refusal {
+            number: NO_ROOM,
+            place: 2 * count,
+        });
     }
-    Answer::Done
+    Ok(())
 }

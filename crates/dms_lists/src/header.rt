@@ -4,25 +4,17 @@ ghost use Rattle.std.specs.Prelude.{◌≡◌, ◌+◌, ◌<◌, ◌≤◌, leng
 ghost use Rattle.paper.specs.Faults.{stated};
 ghost use Rattle.paper.specs.File.{half_at, header_length, marked, known, sharp, vertices_in, faces_in, corners_in, sides_start, corners_start, sharpness_start, sharpness_bytes, expected_length, counts_verdict, length_verdict, header_verdict};
 
-use paper::Answer;
+use paper::Refusal;
 
 // The header's length.
 pub const HEADER: usize = 11;
-
-fn wide(byte: u8) -> u16
-    ensures { (result ≡ byte) × (result < 256) }
-{
-    byte as u16
-}
 
 // The 16-bit number at a place, low byte first.
 pub(crate) fn half(file: &[u8], at: usize) -> u16
     requires { at + 1 < length file.now }
     ensures { (result ≡ half_at file.now at) × (result < 65536) }
 {
-    let low = wide(file[at]);
-    let high = wide(file[at + 1]);
-    low + 256 * high
+    u16::from_le_bytes([file[at], file[at + 1]])
 }
 
 // Whether the file begins with the mark DMS.
@@ -30,13 +22,7 @@ fn has_mark(file: &[u8]) -> bool
     requires { header_length ≤ length file.now }
     ensures { result ≡ marked file.now }
 {
-    if file[0] != 0x44 {
-        return false;
-    }
-    if file[1] != 0x4D {
-        return false;
-    }
-    file[2] == 0x53
+    file.starts_with(b"DMS")
 }
 
 // Whether the version is one that is read.
@@ -61,21 +47,21 @@ pub fn vertex_count(file: &[u8]) -> usize
     requires { header_length ≤ length file.now }
     ensures { (result ≡ vertices_in file.now) × (result < 65536) }
 {
-    half(file, 5) as usize
+    usize::from(half(file, 5))
 }
 
 pub fn face_count(file: &[u8]) -> usize
     requires { header_length ≤ length file.now }
     ensures { (result ≡ faces_in file.now) × (result < 65536) }
 {
-    half(file, 7) as usize
+    usize::from(half(file, 7))
 }
 
 pub fn corner_count(file: &[u8]) -> usize
     requires { header_length ≤ length file.now }
     ensures { (result ≡ corners_in file.now) × (result < 65536) }
 {
-    half(file, 9) as usize
+    usize::from(half(file, 9))
 }
 
 // Where the side counts start, where the corner list starts, and where the sharpness list starts in version 2.
@@ -118,7 +104,7 @@ pub fn expected_length(file: &[u8]) -> usize
 }
 
 // Check 4, of the header's counts.
-fn check_counts(file: &[u8]) -> Answer
+fn check_counts(file: &[u8]) -> Result<(), Refusal>
     requires { header_length ≤ length file.now }
     ensures { stated result ≡ counts_verdict file.now }
 {
@@ -126,38 +112,47 @@ fn check_counts(file: &[u8]) -> Answer
 }
 
 // Checks 1, 2 and 3 of a file of `counted` bytes.
-fn check_length(file: &[u8], counted: usize) -> Answer
+fn check_length(file: &[u8], counted: usize) -> Result<(), Refusal>
     ensures { stated result ≡ length_verdict file.now counted }
 {
     if file.len() < HEADER {
-        return Answer::Refused(1, 0);
+        return Err(Refusal {
+            number: 1,
+            place: 0,
+        });
     }
     if !has_mark(file) {
-        return Answer::Refused(1, 0);
+        return Err(Refusal {
+            number: 1,
+            place: 0,
+        });
     }
     if !has_version(file) {
-        return Answer::Refused(2, 0);
+        return Err(Refusal {
+            number: 2,
+            place: 0,
+        });
     }
     if counted != expected_length(file) {
-        return Answer::Refused(3, 0);
+        return Err(Refusal {
+            number: 3,
+            place: 0,
+        });
     }
-    Answer::Done
+    Ok(())
 }
 
 // What the header says, of a file of `counted` bytes: 1, 2, 3, 4 from the counts, and last that all its bytes are held.
-pub fn check_header(file: &[u8], counted: usize) -> Answer
+pub fn check_header(file: &[u8], counted: usize) -> Result<(), Refusal>
     ensures { stated result ≡ header_verdict file.now counted }
 {
-    let length = check_length(file, counted);
-    if let Answer::Refused(number, place) = length {
-        return Answer::Refused(number, place);
-    }
-    let counts = check_counts(file);
-    if let Answer::Refused(number, place) = counts {
-        return Answer::Refused(number, place);
-    }
+    check_length(file, counted)?;
+    check_counts(file)?;
     if file.len() < counted {
-        return Answer::Refused(3, 0);
+        return Err(Refusal {
+            number: 3,
+            place: 0,
+        });
     }
-    Answer::Done
+    Ok(())
 }

@@ -1,77 +1,48 @@
 #![tactic(auto)]
 // The bytes of a mesh file, put into a lent buffer: of version 2, which has a sharpness list, or of version 1, which reads as 8 and 8 throughout.
 ghost use Rattle.std.specs.Prelude.{◌≡◌, ◌/◌, length};
-ghost use Rattle.std.specs.Int.{w32};
-ghost use Rattle.std.proofs.Common.{of_z};
-ghost use Rattle.paper.specs.Mesh.{mesh_of};
+ghost use Rattle.paper.specs.Mesh.{of_lists};
 ghost use Rattle.streams.specs.text.Text.{Put};
 ghost use Rattle.dms_output.specs.Bytes.{half_bytes, word_bytes, coordinate_bytes, corner_bytes, header_bytes, list_bytes, file_bytes, TellsPlain, ShortestPut};
 
-use dms_lists::lists::bits;
-use paper::PLAIN;
+use paper::{MeshLists, PLAIN};
 use streams::output::say_up_to;
-use streams::text::{put_byte, put_word};
+use streams::text::put_word;
 
 // The buffer has room for the file of every mesh within the limits.
 pub const BUFFER: usize = 61451;
 
 // Writes the file to standard output, as `put_shortest` puts it, and answers whether it was written.
-pub fn say_file(
-    rt: HostRuntime,
-    coordinates: &[i32],
-    sides: &[u8],
-    corners: &[u16],
-    sharpness: &[u8],
-) -> bool {
+pub fn say_file(rt: HostRuntime, lists: MeshLists) -> bool {
     let mut file = [0u8; BUFFER];
-    let end = put_shortest(&mut file, coordinates, sides, corners, sharpness);
+    let end = put_shortest(&mut file, lists);
     say_up_to(rt, &file, end)
 }
 
 // The bytes of the file, as far as the buffer reaches: of version 1 where the sharpness is 8 throughout, else of version 2.
-fn put_shortest(
-    file: &mut [u8],
-    coordinates: &[i32],
-    sides: &[u8],
-    corners: &[u16],
-    sharpness: &[u8],
-) -> usize
-    ensures { ShortestPut (mesh_of coordinates.now sides.now corners.now sharpness.now) file.old file.new result }
+fn put_shortest(file: &mut [u8], lists: MeshLists) -> usize
+    ensures { ShortestPut (of_lists lists.entry) file.old file.new result }
 {
-    let sharp = !is_plain(sharpness);
-    put_file(file, sharp, coordinates, sides, corners, sharpness)
+    let sharp = !is_plain(lists.sharpness);
+    put_file(file, sharp, lists)
 }
 
 // Whether a sharpness list is 8 throughout, so that version 1 says it.
 pub(crate) fn is_plain(sharpness: &[u8]) -> bool
     ensures { TellsPlain sharpness.now result }
 {
-    let mut i = 0;
-    while i < sharpness.len() {
-        if sharpness[i] != PLAIN {
-            return false;
-        }
-        i += 1;
-    }
-    true
+    sharpness.iter().all(|n| *n == PLAIN)
 }
 
 // The bytes of the file, as far as the buffer reaches: of version 2 where `sharp`, else of version 1.
-pub fn put_file(
-    file: &mut [u8],
-    sharp: bool,
-    coordinates: &[i32],
-    sides: &[u8],
-    corners: &[u16],
-    sharpness: &[u8],
-) -> usize
-    ensures { Put file.old 0 (file_bytes sharp (mesh_of coordinates.now sides.now corners.now sharpness.now)) file.new result }
+pub fn put_file(file: &mut [u8], sharp: bool, lists: MeshLists) -> usize
+    ensures { Put file.old 0 (file_bytes sharp (of_lists lists.entry)) file.new result }
 {
     if sharp {
-        let lists = put_lists(file, 2, coordinates, sides, corners);
-        return put_word(file, lists, sharpness);
+        let end = put_lists(file, 2, lists.coordinates, lists.sides, lists.corners);
+        return put_word(file, end, lists.sharpness);
     }
-    put_lists(file, 1, coordinates, sides, corners)
+    put_lists(file, 1, lists.coordinates, lists.sides, lists.corners)
 }
 
 // The header, and the three lists that both versions have.
@@ -117,17 +88,15 @@ fn put_header(
 fn put_half(file: &mut [u8], at: usize, n: usize) -> usize
     ensures { Put file.old at (half_bytes n) file.new result }
 {
-    let low = put_byte(file, at, (n % 256) as u8);
-    put_byte(file, low, (n / 256 % 256) as u8)
+    let [low, high, ..] = n.to_le_bytes();
+    put_word(file, at, &[low, high])
 }
 
 // A coordinate.
 fn put_coordinate(file: &mut [u8], at: usize, z: i32) -> usize
     ensures { Put file.old at (word_bytes z) file.new result }
 {
-    let n = bits(z) as usize;
-    let low = put_half(file, at, n);
-    put_half(file, low, n / 65536)
+    put_word(file, at, &z.to_le_bytes())
 }
 
 // The coordinates.
@@ -135,10 +104,8 @@ fn put_coordinates(file: &mut [u8], from: usize, coordinates: &[i32]) -> usize
     ensures { Put file.old from (coordinate_bytes coordinates.now (length coordinates.now)) file.new result }
 {
     let mut at = from;
-    let mut i = 0;
-    while i < coordinates.len() {
-        at = put_coordinate(file, at, coordinates[i]);
-        i += 1;
+    for z in coordinates {
+        at = put_coordinate(file, at, *z);
     }
     at
 }
@@ -148,10 +115,8 @@ fn put_corners(file: &mut [u8], from: usize, corners: &[u16]) -> usize
     ensures { Put file.old from (corner_bytes corners.now (length corners.now)) file.new result }
 {
     let mut at = from;
-    let mut c = 0;
-    while c < corners.len() {
-        at = put_half(file, at, corners[c] as usize);
-        c += 1;
+    for vertex in corners {
+        at = put_half(file, at, usize::from(*vertex));
     }
     at
 }

@@ -1,9 +1,12 @@
 -- A range one number longer, and what a number tells of it.
-use mathlib.Core.Path.{◌≡◌, subst}
+use mathlib.Core.Path.{◌≡◌, refl, sym, subst}
+use mathlib.Core.Bool.{Bool, true, false, true≢false}
+use Rattle.std.proofs.Common.{IsTrue, ◌↔◌}
+use mir.Val.{bool_byte}
 use mathlib.Core.Logic.{⊎_elim}
 use Prim.Native.Nat.{ℕ, ◌+◌, ◌<◌, ◌≤◌}
 use native.Mathlib.Omega.{arith}
-use lib.Dec.{ltb}
+use lib.Dec.{ltb, lit<}
 use borrow.Author.Tests.{ltb-true, ltb-false}
 use Rattle.mesh.proofs.Scans.{ways}
 use Rattle.face_sums.specs.Marks.{SomeIn, Tells}
@@ -35,3 +38,8 @@ module _ (P : ℕ → Type 0) (start end more : ℕ) (e : more ≡ end + 1) wher
 
 pub tells_none : (P : ℕ → Type 0) (start end r : ℕ) → end ≡ start → r ≡ 0 → Tells r (SomeIn P start end)
 tells_none P start end r e z = record { yes = λ s. absurd (omega (arith, s.from, s.to)); only = λ o. absurd (omega arith) }
+
+-- a test's bit tells what the test does
+pub tells_bit : {A : Type 0} (b : Bool) (r : ℕ) → r ≡ bool_byte b → (IsTrue b ↔ A) → Tells r A
+tells_bit true r e i = record { yes = λ a. rw e (lit< tt); only = λ o. i.0 refl }
+tells_bit false r e i = record { yes = λ a. absurd (true≢false (sym (i.1 a))); only = λ o. absurd (omega (arith, o, e)) }

@@ -1,10 +1,10 @@
 #![tactic(auto)]
 // The sums of the faces that are needed, once for each face, in a table with a row for each face; and a vertex on an axis.
-ghost use Rattle.std.specs.Prelude.{◌≡◌, ◌+◌, ◌*◌, ◌≤◌, ◌<◌, length};
+ghost use Rattle.std.specs.Prelude.{IsTrue, ◌↔◌, ◌≡◌, ◌+◌, ◌*◌, ◌≤◌, ◌<◌, length};
 ghost use Rattle.paper.specs.Mesh.{most_sides, plain_mesh};
 ghost use Rattle.paper.specs.Corners.{sum_of};
 ghost use Rattle.mesh.specs.Tables.{Named};
-ghost use Rattle.face_sums.specs.Marks.{SomeIn, Tells, AtMark};
+ghost use Rattle.face_sums.specs.Marks.{SomeIn, AtMark};
 ghost use Rattle.face_sums.specs.Sums.{FacesWithin, Placed, vertex_steps, sum_row, RowSummed, SumsAre};
 
 // The numbers in a row of the table, one for each axis. A face has at least three corners, so the table has no more numbers than the mesh has
@@ -27,62 +27,47 @@ pub fn fill_sums(
     ensures { SumsAre (plain_mesh coordinates.now sides.now corners.now) marked.now (length sides.now) wanted.new sums.new }
 {
     let mut start = 0;
-    let mut f = 0;
-    while f < sides.len() {
-        let n = sides[f] as usize;
-        let any = any_marked(corners, marked, start, n);
-        wanted[f] = any;
-        if any != 0 {
-            sum_face(coordinates, corners, start, n, f, sums);
+    for f in 0..sides.len() {
+        let end = start + sides[f] as usize;
+        let face = &corners[start..end];
+        let any = any_marked(face, marked);
+        wanted[f] = u8::from(any);
+        if any {
+            sum_face(coordinates, face, f, sums);
         }
-        start += n;
-        f += 1;
+        start = end;
     }
 }
 
-// Not zero where one of `n` corners from `start` on has its vertex marked. It looks at all of them: that is no slower than to stop at the
-// first, which the processor cannot foresee.
-fn any_marked(corners: &[u16], marked: &[u8], start: usize, n: usize) -> u8
-    requires named { Named corners.now (length marked.now) }
-    requires range { start + n ≤ length corners.now }
-    ensures { Tells result (SomeIn (AtMark corners.now marked.now) start (start + n)) }
+// Whether one of a face's corners has its vertex marked. It looks at all of them: that is no slower than to stop at the first, which the
+// processor cannot foresee.
+fn any_marked(face: &[u16], marked: &[u8]) -> bool
+    requires { Named face.now (length marked.now) }
+    ensures { IsTrue result ↔ SomeIn (AtMark face.now marked.now) 0 (length face.now) }
 {
-    let mut any = 0;
-    let mut j = 0;
-    while j < n {
-        let u = corners[start + j] as usize;
-        if marked[u] != 0 {
-            any = 1;
+    let mut any = false;
+    for u in face {
+        if marked[*u as usize] != 0 {
+            any = true;
         }
-        j += 1;
     }
     any
 }
 
-// Σ of face f, whose n corners begin at `start`: one pass for the three axes.
-fn sum_face(
-    coordinates: &[i32],
-    corners: &[u16],
-    start: usize,
-    n: usize,
-    f: usize,
-    sums: &mut [i32],
-)
-    requires placed { Placed coordinates.now corners.now }
-    requires face { (start + n ≤ length corners.now) × (n ≤ most_sides) }
+// Σ of face f, by its corners: one pass for the three axes.
+fn sum_face(coordinates: &[i32], face: &[u16], f: usize, sums: &mut [i32])
+    requires placed { Placed coordinates.now face.now }
+    requires face { length face.now ≤ most_sides }
     requires sums { sum_row * f + sum_row ≤ length sums.old }
-    ensures { RowSummed coordinates.now corners.now start n f sums.old sums.new }
+    ensures { RowSummed coordinates.now face.now 0 (length face.now) f sums.old sums.new }
 {
     let mut x = 0;
     let mut y = 0;
     let mut z = 0;
-    let mut j = 0;
-    while j < n {
-        let c = start + j;
-        x += coordinate(coordinates, corners, 0, c);
-        y += coordinate(coordinates, corners, 1, c);
-        z += coordinate(coordinates, corners, 2, c);
-        j += 1;
+    for c in 0..face.len() {
+        x += coordinate(coordinates, face, 0, c);
+        y += coordinate(coordinates, face, 1, c);
+        z += coordinate(coordinates, face, 2, c);
     }
     sums[SUM_ROW * f] = x;
     sums[SUM_ROW * f + 1] = y;

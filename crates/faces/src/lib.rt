@@ -72,13 +72,11 @@ pub fn ring_centre(
     let mut y: i64 = 0;
     let mut z: i64 = 0;
     let mut at = Walker { corner: c };
-    let mut j: usize = 0;
-    while j < m {
+    for _ in 0..m {
         x = add_point(x, WEIGHTS, points, 0, at.corner);
         y = add_point(y, WEIGHTS, points, 1, at.corner);
         z = add_point(z, WEIGHTS, points, 2, at.corner);
         at = at.by(table, column);
-        j += 1;
     }
     quotient(x, y, z, m, f)
 }
@@ -103,8 +101,7 @@ pub fn ring_toward(
     let mut z: i64 = 0;
     let mut last = cosines::cosine(rows, m, m - 1);
     let mut at = Walker { corner: c };
-    let mut j: usize = 0;
-    while j < m {
+    for j in 0..m {
         let next = cosines::cosine(rows, m, j);
         let w = weigh(last, next);
         x = add_point(x, w, points, 0, at.corner);
@@ -112,7 +109,6 @@ pub fn ring_toward(
         z = add_point(z, w, points, 2, at.corner);
         last = next;
         at = at.by(table, column);
-        j += 1;
     }
     quotient(x, y, z, m, f)
 }
@@ -128,6 +124,18 @@ fn quotient(x: i64, y: i64, z: i64, m: usize, f: u64) -> FacePoint
         x: round_units(x, d, f),
         y: round_units(y, d, f),
         z: round_units(z, d, f),
+    }
+}
+
+// A point of what each axis has.
+fn on_axes<F: Fn(usize) -> i32>(value: F) -> FacePoint
+    requires { F.pre value 0 × F.pre value 1 × F.pre value 2 }
+    ensures { F.post value 0 result.x × F.post value 1 result.y × F.post value 2 result.z }
+{
+    FacePoint {
+        x: value(0),
+        y: value(1),
+        z: value(2),
     }
 }
 
@@ -148,11 +156,7 @@ pub fn three_centre(points: &[i32], c: usize, d: usize, e: usize) -> FacePoint
     requires { Readable points.now c × Readable points.now d × Readable points.now e }
     ensures { OnAxes (λ axis. ThreeCentre (point_at points.now axis c) (point_at points.now axis d) (point_at points.now axis e)) result }
 {
-    FacePoint {
-        x: three_mean(points, 0, c, d, e),
-        y: three_mean(points, 1, c, d, e),
-        z: three_mean(points, 2, c, d, e),
-    }
+    on_axes(|axis| three_mean(points, axis, c, d, e))
 }
 
 // Its point towards the side from c to d.
@@ -172,11 +176,7 @@ pub fn three_toward(points: &[i32], c: usize, d: usize, e: usize) -> FacePoint
     requires { Readable points.now c × Readable points.now d × Readable points.now e }
     ensures { OnAxes (λ axis. ThreeToward (point_at points.now axis c) (point_at points.now axis d) (point_at points.now axis e)) result }
 {
-    FacePoint {
-        x: three_weighted(points, 0, c, d, e),
-        y: three_weighted(points, 1, c, d, e),
-        z: three_weighted(points, 2, c, d, e),
-    }
+    on_axes(|axis| three_weighted(points, axis, c, d, e))
 }
 
 // The centre of a ring of four corners on an axis: row 4 is exact too.
@@ -197,11 +197,7 @@ pub fn four_centre(points: &[i32], c: usize, d: usize, e: usize, g: usize) -> Fa
     requires { Readable points.now c × Readable points.now d × Readable points.now e × Readable points.now g }
     ensures { OnAxes (λ axis. FourCentre (point_at points.now axis c) (point_at points.now axis d) (point_at points.now axis e) (point_at points.now axis g)) result }
 {
-    FacePoint {
-        x: four_mean(points, 0, c, d, e, g),
-        y: four_mean(points, 1, c, d, e, g),
-        z: four_mean(points, 2, c, d, e, g),
-    }
+    on_axes(|axis| four_mean(points, axis, c, d, e, g))
 }
 
 // Its point towards the side from c to d.
@@ -222,9 +218,5 @@ pub fn four_toward(points: &[i32], c: usize, d: usize, e: usize, g: usize) -> Fa
     requires { Readable points.now c × Readable points.now d × Readable points.now e × Readable points.now g }
     ensures { OnAxes (λ axis. FourToward (point_at points.now axis c) (point_at points.now axis d) (point_at points.now axis e) (point_at points.now axis g)) result }
 {
-    FacePoint {
-        x: four_weighted(points, 0, c, d, e, g),
-        y: four_weighted(points, 1, c, d, e, g),
-        z: four_weighted(points, 2, c, d, e, g),
-    }
+    on_axes(|axis| four_weighted(points, axis, c, d, e, g))
 }

@@ -9,13 +9,14 @@ const PATH: usize = 4096;
 
 fn show(rt: HostRuntime, i: usize) {
     let mut path = [0u8; PATH];
-    let n = arguments::get(rt, i, &mut path).count;
-    let Some(mut file) = open(rt, &path[..n]) else {
+    let n = arguments::get(rt, i, &mut path).unwrap_or(0);
+    let name = &path[..n];
+    let Some(mut file) = open(rt, name) else {
         return;
     };
-    say(rt, &path[..n]);
+    say(rt, name);
     say(rt, b": ");
-    print::inspect(rt, &mut file, &path[..n]);
+    print::inspect(rt, &mut file, name);
 }
 
 fn main(rt: HostRuntime) {

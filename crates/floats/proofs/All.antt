@@ -4,29 +4,31 @@ use mathlib.Core.Bool.{Bool, true, false, not, ◌||◌}
 use mathlib.Core.List.{List, [], ◌∷◌}
 use Prim.Native.Nat.{ℕ, zero, suc, ◌+◌, ◌*◌, ◌/◌, ◌%◌, ◌^◌, ◌≤◌, ◌<◌}
 use native.Mathlib.Omega.{arith}
-use borrow.Author.Tests.{leb-true, ltb-false, lt-ltb, le-ltb, eqb-true, eq-eqb, ne_eqb, not-false}
-use lib.Dec.{T, ltb, eqb, lit≤}
+use borrow.Author.Tests.{leb-true, ltb-false, eqb-true, not-false}
+use lib.Dec.{ltb, eqb, lit≤}
 use lib.ListN.{length, get_or, take, drop, set, length-take, length-drop}
 use lib.Seq.{get_or-take, get_or-drop}
 use lib.IntN.{ℤ, pos, nat_abs}
-use lib.Ieee.{Float, binary32, of_int, in_float}
+use lib.Ieee.{Float, binary32, of_int}
 use mir.Syntax.{w32}
 use mir.Val.{to_z, of_z}
 use Rattle.paper.specs.Mesh.{most_corners}
 use Rattle.paper.specs.Calls.{per_corner}
 use Rattle.paper.specs.File.{no_room, begins}
-use Rattle.paper.specs.Faults.{Verdict, sound, ◌or_else◌, single, lowest_of, stated}
+use Rattle.paper.specs.Faults.{Verdict, sound, ◌or_else◌, single, lowest_of, stated, Answer, done}
+use Rattle.std.specs.Prelude.{Err}
+use Rattle.paper.specs.declared.Refusal.{Refusal}
 use Rattle.paper.specs.Floats.{within, fault19, net_verdict, difference, is_near, split, parts, unless, six_of, point_of, read_back}
+use Rattle.std.specs.Prelude.{Err}
+use Rattle.paper.specs.declared.Refusal.{Refusal}
 use Rattle.paper.specs.Floats.{far_first, far_second, float_number, all_floats, all_verdict, NoneRounded, AllInFloats}
-use Rattle.paper.specs.declared.Answer.{Answer}
-use Rattle.paper.specs.declared.Answer.TheVariants.{Done, Refused}
-use Rattle.mesh.proofs.Ranges.{none_left, none_right, or_left, or_right, or_none}
+use Rattle.mesh.proofs.Ranges.{none_left, none_right}
 use Rattle.mesh.proofs.Verdicts.{sound_left, sound_right, single_sound, lowest_sound}
 use Rattle.mesh.proofs.Fills.{filled_step, filled_all}
 use Rattle.floats.specs.Exact.{FloatOf, first_part, second_part, FloatsFilled, SixPut, NetPut, six_set}
 use Rattle.floats.proofs.Exact.{whole_carried, float_of, first_carried, first_size, second_size}
 use Rattle.mesh.proofs.NetLists.{passes}
-use Rattle.floats.proofs.Laws.{bits, d_bits, in_float_lem, near_all, plain_test, number_le, point_sound, apart}
+use Rattle.floats.proofs.Laws.{bits, d_bits, near_all, plain_test, number_le, point_sound, apart}
 
 -- ---- six floats
 -- a float of a whole number is the number's
@@ -35,9 +37,6 @@ float_is z x f = f.whole ∙ ap (of_int binary32) f.reads
 
 pub none_float : FloatOf (pos 0) (of_int binary32 (pos 0))
 none_float = float_of (pos 0) (whole_carried binary32 (pos 0) (lit≤ tt)) (omega arith)
-
-pub none_in : T (in_float binary32 (pos 0))
-none_in = in_float_lem (pos 0) (lit≤ tt)
 
 pub none_rest : (b : Bool) (d : ℤ) → b ≡ true → FloatOf (second_part b d) (of_int binary32 (pos 0))
 none_rest b d e = rw e none_float
@@ -234,12 +233,12 @@ module _ (numbers : List ℤ) (room : ℕ) (s : all_verdict numbers room ≡ sou
 
 -- ---- what the call answers
 module _ (numbers : List ℤ) (old : List Float) where
-  pub all_refused : {a : Answer} {k p : ℕ} → stated a ≡ all_verdict numbers (length old) → a ≡ Refused k p → AllInFloats numbers old (Refused k p) old
-  all_refused {k = k} {p = p} e q =
-      let v : stated (Refused k p) ≡ all_verdict numbers (length old) = sym (ap stated q) ∙ e in
+  pub all_refused : {a : Answer} {refusal : Refusal} → stated a ≡ all_verdict numbers (length old) → a ≡ Err refusal → AllInFloats numbers old (Err refusal) old
+  all_refused {refusal = r} e q =
+      let v : stated {A = Unit} (Err r) ≡ all_verdict numbers (length old) = sym (ap stated q) ∙ e in
       record { answers = v; holds = refl; exact = λ s. none_rounded numbers (length old) (sym v ∙ s) }
 
-  pub all_done : {out : List Float} → all_verdict numbers (length old) ≡ sound → out ≡ begins (all_floats numbers) old → AllInFloats numbers old Done out
+  pub all_done : {out : List Float} → all_verdict numbers (length old) ≡ sound → out ≡ begins (all_floats numbers) old → AllInFloats numbers old done out
   all_done e h = record { answers = sym e; holds = h; exact = λ s. none_rounded numbers (length old) e }
 
 -- the chain of the checks
@@ -249,16 +248,7 @@ pub all_chain : (numbers : List ℤ) (room : ℕ) → all_verdict numbers room
 unfolding all_verdict
 all_chain numbers room = refl
 
--- 18, test by test
+-- 18 bounds the length
 module _ (n : ℕ) where
-  pub whole_not : (n % 123 ≡ 0 → ⊥) → true ≡ (not (eqb (n % per_corner) 0) || ltb (per_corner * most_corners) n)
-  whole_not h = sym (or_left _ _ (ap not (ne_eqb (n % per_corner) 0 h)))
-
-  pub few_not : 123 * 8192 < n → true ≡ (not (eqb (n % per_corner) 0) || ltb (per_corner * most_corners) n)
-  few_not h = sym (or_right (not (eqb (n % per_corner) 0)) _ (lt-ltb (per_corner * most_corners) n h))
-
-  pub nets_pass : n % 123 ≡ 0 → n ≤ 123 * 8192 → false ≡ (not (eqb (n % per_corner) 0) || ltb (per_corner * most_corners) n)
-  nets_pass h l = sym (or_none _ _ (ap not (eq-eqb (n % per_corner) 0 h)) (le-ltb (per_corner * most_corners) n l))
-
   pub few_of : single 18 (not (eqb (n % per_corner) 0) || ltb (per_corner * most_corners) n) n ≡ sound → n ≤ 1007616
   few_of e = ltb-false 1007616 n (none_right (not (eqb (n % per_corner) 0)) _ (single_sound 18 _ _ e))

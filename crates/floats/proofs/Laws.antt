@@ -1,29 +1,28 @@
 -- The checks, the differences and the two cases, as the code meets them.
 use mathlib.Core.Path.{◌≡◌, sym, ap, ◌∙◌}
-use mathlib.Core.Bool.{Bool, true, false, not, ◌&&◌, true≢false}
+use mathlib.Core.Bool.{Bool, true, false, not, ◌&&◌}
 use mathlib.Core.List.{List}
-use Prim.Native.Nat.{ℕ, suc, ◌+◌, ◌/◌, ◌^◌, ◌≤◌, ◌<◌}
+use Rattle.std.specs.Prelude.{Ok, Err}
+use Prim.Native.Nat.{ℕ, ◌+◌, ◌/◌, ◌^◌, ◌≤◌, ◌<◌}
 use native.Mathlib.Nat.{le_trans, div-le_self}
 use native.Mathlib.Omega.{arith}
 use lib.Dec.{T, lit<, le→leb, lt→ltb}
 use lib.ListN.{length, get_or}
 use lib.IntN.{ℤ, pos, negsuc, ◌-ℤ◌, ◌*ℤ◌, nat_abs}
-use lib.Signed.{lt_z, shr_z}
+use lib.Signed.{shr_z}
 use lib.Ieee.{Float, binary32, binary64, of_int, in_float, fits, is_nan}
-use mir.Syntax.{w32, w64}
+use mir.Syntax.{w32}
 use mir.Val.{SFits, to_z, of_z}
-use mir.ValLaws.{to_z-of_z, to_z_pos}
-use borrow.Author.Tests.{leb-true, ltb-true, ltb-false, eqb-true, not-true, not-false, le-leb, lt-leb, le-ltb}
+use mir.ValLaws.{to_z-of_z}
+use borrow.Author.Tests.{leb-true, ltb-false, eqb-true, not-true, not-false, le-ltb}
 use Rattle.paper.specs.Numbers.{floor}
-use Rattle.paper.specs.Faults.{Verdict, sound, ◌or_else◌, single, lowest_of, stated}
+use Rattle.paper.specs.Faults.{Verdict, sound, ◌or_else◌, single, lowest_of, stated, Answer}
 use Rattle.paper.specs.Floats.{within, fault18, fault19, fault20, net_verdict, point_verdict, difference, is_near, far_first, far_second}
 use Rattle.paper.specs.Floats.{unless, split, point_of, read_back, InFloats}
 use Rattle.paper.specs.declared.Floats.{Floats}
-use Rattle.paper.specs.declared.Answer.{Answer}
-use Rattle.paper.specs.declared.Answer.TheVariants.{Done, Refused}
 use Rattle.paper.specs.declared.FloatPoint.{FloatPoint}
-use Rattle.paper.specs.declared.FloatPoint.TheVariants.{Near, Far, Refused as NoPoint}
-use Rattle.numbers.proofs.Diff.{diff}
+use Rattle.paper.specs.declared.FloatPoint.TheVariants.{Near, Far}
+use Rattle.paper.specs.declared.Refusal.{Refusal}
 use Rattle.numbers.proofs.Poly.{over, poly}
 use Rattle.numbers.proofs.Laws.{mul_comm}
 use Rattle.numbers.proofs.Machine.{abs_fits}
@@ -31,46 +30,6 @@ use Rattle.mesh.proofs.Scans.{and_left, and_right}
 use Rattle.mesh.proofs.Verdicts.{sound_left, sound_right, single_sound, single_miss, lowest_sound, or_else_sound, or_else_assoc}
 use Rattle.floats.specs.Exact.{FloatOf, first_part, SplitTo}
 use Rattle.floats.proofs.Exact.{whole_carried, float_of, narrows, narrow_float_of, first_carried, first_size, second_size}
-
--- ---- within ±m, in two tests
-below : (m : ℕ) (z : ℤ) → lt_z z (pos 0 -ℤ pos m) ≡ true → within m z ≡ false
-below m (pos n) h = let k = simp diff at h in absurd (omega arith)
-below m (negsuc n) h = let k = simp diff at h in lt-leb (suc n) m (omega arith)
-
-above : (m : ℕ) (z : ℤ) → lt_z (pos m) z ≡ true → within m z ≡ false
-above m (pos n) h = lt-leb n m (ltb-true m n h)
-above m (negsuc n) h = absurd (true≢false (sym h))
-
-between : (m : ℕ) (z : ℤ) → lt_z z (pos 0 -ℤ pos m) ≡ false → lt_z (pos m) z ≡ false → within m z ≡ true
-between m (pos n) h k = le-leb n m (ltb-false m n k)
-between m (negsuc n) h k = let l = simp diff at h in le-leb (suc n) m (omega arith)
-
--- by the bits that the code compares, at 64
-module _ (z : ℤ) (m : ℕ) (fz : SFits w32 z) (fm : m < 2 ^ 32) where
-  pub wide_fits : SFits w64 (to_z w32 (of_z w32 z))
-  wide_fits = rw (to_z-of_z w32 z fz) (record { sfits = omega (arith, fz.sfits) })
-
-  m_bits : to_z w64 m ≡ pos m
-  m_bits = to_z_pos w64 m (omega arith)
-
-  pub minus_fits : SFits w64 (pos 0 -ℤ to_z w64 m)
-  minus_fits = rw m_bits (let f : SFits w64 (pos 0 -ℤ pos m) = simp diff (omega arith) in f)
-
-  z_bits : to_z w64 (of_z w64 (to_z w32 (of_z w32 z))) ≡ z
-  z_bits = to_z-of_z w64 (to_z w32 (of_z w32 z)) wide_fits ∙ to_z-of_z w32 z fz
-
-  low_bits : to_z w64 (of_z w64 (pos 0 -ℤ to_z w64 m)) ≡ pos 0 -ℤ pos m
-  low_bits = to_z-of_z w64 (pos 0 -ℤ to_z w64 m) minus_fits ∙ ap (λ (x : ℤ). pos 0 -ℤ x) m_bits
-
-  pub is_below : lt_z (to_z w64 (of_z w64 (to_z w32 (of_z w32 z)))) (to_z w64 (of_z w64 (pos 0 -ℤ to_z w64 m))) ≡ true → false ≡ within m z
-  is_below h = sym (below m z (rw (z_bits, low_bits) at h))
-
-  pub is_above : lt_z (to_z w64 m) (to_z w64 (of_z w64 (to_z w32 (of_z w32 z)))) ≡ true → false ≡ within m z
-  is_above h = sym (above m z (rw (z_bits, m_bits) at h))
-
-  pub is_between : lt_z (to_z w64 (of_z w64 (to_z w32 (of_z w32 z)))) (to_z w64 (of_z w64 (pos 0 -ℤ to_z w64 m))) ≡ false
-      → lt_z (to_z w64 m) (to_z w64 (of_z w64 (to_z w32 (of_z w32 z)))) ≡ false → true ≡ within m z
-  is_between g h = sym (between m z (rw (z_bits, low_bits) at g) (rw (z_bits, m_bits) at h))
 
 -- ---- near, in three tests
 pub near_all : (x y z : ℤ) → is_near x y z ≡ true → (nat_abs x ≤ 2 ^ 24) × (nat_abs y ≤ 2 ^ 24) × (nat_abs z ≤ 2 ^ 24)
@@ -272,9 +231,9 @@ unfolding point_verdict net_verdict
 chain numbers point = or_else_assoc _ _ _
 
 module _ (numbers : List ℤ) (point : ℕ) {a : Answer} (e : stated a ≡ point_verdict numbers point) where
-  pub point_refused : {k p : ℕ} → a ≡ Refused k p → InFloats numbers point (NoPoint k p)
+  pub point_refused : {refusal : Refusal} → a ≡ Err refusal → InFloats numbers point (Err refusal)
   unfolding point_of
-  point_refused {k} {p} q =
+  point_refused q =
       record {
         answers =
             ap (λ (w : Verdict). unless w (split (difference numbers point 0) (difference numbers point 1) (difference numbers point 2)))
@@ -282,9 +241,9 @@ module _ (numbers : List ℤ) (point : ℕ) {a : Answer} (e : stated a ≡ point
         whole = tt;
       }
 
-  pub point_split : a ≡ Done → {x y z : ℤ} → nat_abs x ≤ 2 ^ 28 → nat_abs y ≤ 2 ^ 28 → nat_abs z ≤ 2 ^ 28
+  pub point_split : {u : Unit} → a ≡ Ok u → {x y z : ℤ} → nat_abs x ≤ 2 ^ 28 → nat_abs y ≤ 2 ^ 28 → nat_abs z ≤ 2 ^ 28
       → x ≡ difference numbers point 0 → y ≡ difference numbers point 1 → z ≡ difference numbers point 2
-      → {r : FloatPoint} → SplitTo (bits x) (bits y) (bits z) r → InFloats numbers point r
+      → {r : FloatPoint} → SplitTo (bits x) (bits y) (bits z) r → InFloats numbers point (Ok r)
   unfolding point_of
   point_split q {x} {y} {z} hx hy hz ex ey ez s =
       let v : point_verdict numbers point ≡ sound = sym e ∙ ap stated q in

@@ -6,13 +6,15 @@ use mathlib.Core.List.{List, [], ◌∷◌}
 use Prim.Native.Nat.{ℕ}
 use lib.IntN.{ℤ, ◌+ℤ◌}
 use lib.Ieee.{Float, binary32, of_int}
-use Rattle.paper.specs.Faults.{Verdict, sound, fault}
+use Rattle.paper.specs.Faults.{Verdict, sound, fault, Told}
 use Rattle.paper.specs.Floats.{point_verdict, difference, is_near, PointCase, near, far, refused, axes, parts, unless, split, point_of}
 use Rattle.paper.specs.Floats.{read_back, WholeFloat, axes_back, AxesWhole, point_stated, AllWhole, InFloats, sums}
+use Rattle.std.specs.Prelude.{IfOk, Ok, Err}
 use Rattle.paper.specs.Claims.{FarPairs, FloatSums, OneAnswer}
 use Rattle.paper.specs.declared.Floats.{Floats}
 use Rattle.paper.specs.declared.FloatPoint.{FloatPoint}
-use Rattle.paper.specs.declared.FloatPoint.TheVariants.{Near, Far, Refused}
+use Rattle.paper.specs.declared.FloatPoint.TheVariants.{Near, Far}
+use Rattle.paper.specs.declared.Refusal.{Refusal}
 use Rattle.floats.proofs.Exact.{far_pair}
 use Rattle.floats.proofs.Laws.{point_sound}
 
@@ -30,11 +32,11 @@ total (near l) = l
 total (far h l) = added h l
 total (refused number place) = []
 
-sums_are : (r : FloatPoint) → sums r ≡ total (point_stated r)
+sums_are : (r : Told FloatPoint) → sums r ≡ total (point_stated r)
 unfolding total added
-sums_are (Near p) = refl
-sums_are (Far p q) = refl
-sums_are (Refused number place) = refl
+sums_are (Ok (Near p)) = refl
+sums_are (Ok (Far p q)) = refl
+sums_are (Err refusal) = refl
 
 total_parts : (b : Bool) (x y z : ℤ) → total (parts b x y z) ≡ axes x y z
 unfolding total added
@@ -60,17 +62,21 @@ floats_same p q a b e =
     ∙ ap {B = Floats} (λ (v : Float). record { x = q.x; y = v; z = p.z }) (plain_same p.y q.y a.1 b.1 (cc))
     ∙ ap {B = Floats} (λ (v : Float). record { x = q.x; y = q.y; z = v }) (plain_same p.z q.z a.2 b.2 (cc))
 
-same_answer : (r s : FloatPoint) → AllWhole r → AllWhole s → point_stated r ≡ point_stated s → r ≡ s
-same_answer (Near p) (Near q) a b e = ap Near (floats_same p q a b (cc))
-same_answer (Near p) (Far q q') a b e = cc
-same_answer (Near p) (Refused n m) a b e = cc
-same_answer (Far p p') (Near q) a b e = cc
-same_answer (Far p p') (Far q q') a b e =
-    ap (λ (f : Floats). Far f p') (floats_same p q a.0 b.0 (cc)) ∙ ap (λ (f : Floats). Far q f) (floats_same p' q' a.1 b.1 (cc))
-same_answer (Far p p') (Refused n m) a b e = cc
-same_answer (Refused n m) (Near q) a b e = cc
-same_answer (Refused n m) (Far q q') a b e = cc
-same_answer (Refused n m) (Refused k l) a b e = cc
+pub refusals_same : (r s : Refusal) → r.number ≡ s.number → r.place ≡ s.place → r ≡ s
+refusals_same r s p q =
+    ap {B = Refusal} (λ (n : ℕ). record { number = n; place = r.place }) p ∙ ap {B = Refusal} (λ (n : ℕ). record { number = s.number; place = n }) q
+
+same_answer : (r s : Told FloatPoint) → IfOk r AllWhole → IfOk s AllWhole → point_stated r ≡ point_stated s → r ≡ s
+same_answer (Ok (Near p)) (Ok (Near q)) a b e = ap (λ (f : Floats). Ok (Near f)) (floats_same p q a b (cc))
+same_answer (Ok (Near p)) (Ok (Far q q')) a b e = cc
+same_answer (Ok (Near p)) (Err s) a b e = cc
+same_answer (Ok (Far p p')) (Ok (Near q)) a b e = cc
+same_answer (Ok (Far p p')) (Ok (Far q q')) a b e =
+    ap (λ (f : Floats). Ok (Far f p')) (floats_same p q a.0 b.0 (cc)) ∙ ap (λ (f : Floats). Ok (Far q f)) (floats_same p' q' a.1 b.1 (cc))
+same_answer (Ok (Far p p')) (Err s) a b e = cc
+same_answer (Err r) (Ok (Near q)) a b e = cc
+same_answer (Err r) (Ok (Far q q')) a b e = cc
+same_answer (Err r) (Err s) a b e = ap Err (refusals_same r s (cc) (cc))
 
 pub one_answer : OneAnswer
 one_answer numbers point r s a b = same_answer r s a.whole b.whole (a.answers ∙ sym b.answers)
@@ -90,18 +96,18 @@ unless_fault sound false x y z n p e = cc
 unless_fault (fault k q) b x y z n p e = cc
 
 module _ (numbers : List ℤ) (point : ℕ) where
-  pub near_sound : (p : Floats) → InFloats numbers point (Near p) → point_verdict numbers point ≡ sound
+  pub near_sound : (p : Floats) → InFloats numbers point (Ok (Near p)) → point_verdict numbers point ≡ sound
   unfolding point_of
   near_sound p c = unless_near (point_verdict numbers point) _ _ c.answers
 
-  pub far_sound : (p q : Floats) → InFloats numbers point (Far p q) → point_verdict numbers point ≡ sound
+  pub far_sound : (p q : Floats) → InFloats numbers point (Ok (Far p q)) → point_verdict numbers point ≡ sound
   unfolding point_of
   far_sound p q c = unless_far (point_verdict numbers point) _ _ _ c.answers
 
-  pub refused_fault : (n p : ℕ) → InFloats numbers point (Refused n p) → point_verdict numbers point ≡ fault n p
+  pub refused_fault : (r : Refusal) → InFloats numbers point (Err r) → point_verdict numbers point ≡ fault r.number r.place
   unfolding point_of
-  refused_fault n p c =
+  refused_fault r c =
       let x = difference numbers point 0 in
       let y = difference numbers point 1 in
       let z = difference numbers point 2 in
-      unless_fault (point_verdict numbers point) (is_near x y z) x y z n p c.answers
+      unless_fault (point_verdict numbers point) (is_near x y z) x y z r.number r.place c.answers

@@ -1,5 +1,5 @@
 -- What the stages say to each other: the float of a whole number, and the floats of three differences.
-use Rattle.std.specs.Prelude.{◌≡◌, Bool, true, false, List, ◌++◌, ℕ, ◌+◌, ◌/◌, ◌%◌, ◌≤◌, ◌<◌, length, get_or, drop, set, ℤ, pos, Float}
+use Rattle.std.specs.Prelude.{◌≡◌, Bool, true, false, List, ◌++◌, ℕ, ◌+◌, ◌/◌, ◌%◌, ◌≤◌, ◌<◌, length, get_or, drop, set, ℤ, pos, Float, Ok}
 use Rattle.std.specs.Float.{binary32}
 use Rattle.std.specs.Float.Ieee.{of_int}
 use Rattle.paper.specs.Scan.{values_from}
@@ -17,7 +17,7 @@ first_part true d = d
 first_part false d = far_first d
 
 pub record SplitTo (x y z : ℤ) (r : FloatPoint) : Type 0 where
-  pub answers : point_stated r ≡ split x y z
+  pub answers : point_stated (Ok r) ≡ split x y z
   pub whole : AllWhole r
 
 -- the second float's number

@@ -9,7 +9,7 @@ ghost use Rattle.paper.specs.File.{begins};
 ghost use Rattle.paper.specs.Floats.{within, fault19, net_verdict, point_verdict, difference, is_near, far_first, far_second, InFloats, all_floats, all_verdict, AllInFloats};
 ghost use Rattle.floats.specs.Exact.{FloatOf, first_part, second_part, SplitTo, SixPut, NetPut, six_set};
 
-use paper::{Answer, FloatPoint, Floats, MOST_CORNERS, NO_ROOM, NUMBERS_PER_CORNER};
+use paper::{FloatPoint, Floats, MOST_CORNERS, NO_ROOM, NUMBERS_PER_CORNER, Refusal};
 
 // The largest number of a list, and the largest difference of a near point; the smallest are their negatives.
 const MOST_NUMBER: u32 = 134217728;
@@ -21,53 +21,40 @@ const UNIT_BITS: u32 = 12;
 
 const FAR_UNIT: i32 = 4096;
 
-// The number of the last point.
-const LAST_POINT: usize = 40;
+// The points of a quad-net.
+const POINTS: usize = 41;
 
 // The most numbers of a list of quad-nets.
 const MOST_NET_NUMBERS: usize = NUMBERS_PER_CORNER * MOST_CORNERS;
 
 // The point's difference from b00: near, far or refused.
-pub fn point(numbers: &[i32], point: usize) -> FloatPoint
+pub fn point(numbers: &[i32], point: usize) -> Result<FloatPoint, Refusal>
     ensures { InFloats numbers.now point result }
 {
-    let a = check(numbers, point);
-    if let Answer::Refused(number, place) = a {
-        return FloatPoint::Refused(number, place);
-    }
+    check(numbers, point)?;
     let x = difference(numbers, point, 0);
     let y = difference(numbers, point, 1);
     let z = difference(numbers, point, 2);
-    split(x, y, z)
+    Ok(split(x, y, z))
 }
 
 // All points of a list of quad-nets, 123 numbers for each, in order: six floats for each point, into the beginning of a lent list. A near point has its
 // three floats and three zeros, a far one the three first floats and the three second ones. Each number is checked once, before anything is written.
-pub fn all_points(numbers: &[i32], floats: &mut [f32]) -> Answer
+pub fn all_points(numbers: &[i32], floats: &mut [f32]) -> Result<(), Refusal>
     ensures { AllInFloats numbers.now floats.old result floats.new }
 {
-    let a = check_all(numbers, floats.len());
-    if let Answer::Refused(number, place) = a {
-        return Answer::Refused(number, place);
-    }
+    check_all(numbers, floats.len())?;
     put_nets(numbers, floats);
-    Answer::Done
+    Ok(())
 }
 
 // Checks 18 and 19 of the whole list, then the room for its floats.
-fn check_all(numbers: &[i32], room: usize) -> Answer
+fn check_all(numbers: &[i32], room: usize) -> Result<(), Refusal>
     ensures { stated result ≡ all_verdict numbers.now room }
 {
     let n = numbers.len();
-    let whole = is_nets(n);
-    let a18 = refused_if(!whole, 18, n);
-    if let Answer::Refused(k, p) = a18 {
-        return Answer::Refused(k, p);
-    }
-    let a19 = check_numbers(numbers);
-    if let Answer::Refused(k, p) = a19 {
-        return Answer::Refused(k, p);
-    }
+    refused_if(!is_nets(n), 18, n)?;
+    check_numbers(numbers)?;
     refused_if(room < 2 * n, NO_ROOM, 2 * n)
 }
 
@@ -75,13 +62,7 @@ fn check_all(numbers: &[i32], room: usize) -> Answer
 fn is_nets(n: usize) -> bool
     ensures { not result ≡ (not (eqb (n % per_corner) 0) || ltb (per_corner * most_corners) n) }
 {
-    if n % NUMBERS_PER_CORNER != 0 {
-        return false;
-    }
-    if MOST_NET_NUMBERS < n {
-        return false;
-    }
-    true
+    n % NUMBERS_PER_CORNER == 0 && n <= MOST_NET_NUMBERS
 }
 
 // The floats of all quad-nets, one after the other.
@@ -89,13 +70,9 @@ fn put_nets(numbers: &[i32], floats: &mut [f32])
     requires { all_verdict numbers.now (length floats.old) ≡ sound }
     ensures { floats.new ≡ begins (all_floats numbers.now) floats.old }
 {
-    let nets = numbers.len() / NUMBERS_PER_CORNER;
-    let mut t = 0;
-    while t < nets {
+    for t in 0..numbers.len() / NUMBERS_PER_CORNER {
         let at = NUMBERS_PER_CORNER * t;
-        let end = at + NUMBERS_PER_CORNER;
-        put_net(&numbers[at..end], floats, 2 * at);
-        t += 1;
+        put_net(&numbers[at..at + NUMBERS_PER_CORNER], floats, 2 * at);
     }
 }
 
@@ -104,13 +81,11 @@ fn put_net(net: &[i32], floats: &mut [f32], at: usize)
     requires { (net_verdict net.now ≡ sound) × (at + 246 ≤ length floats.old) }
     ensures { NetPut net.now at floats.old floats.new }
 {
-    let mut point = 0;
-    while point <= LAST_POINT {
+    for point in 0..POINTS {
         let x = difference(net, point, 0);
         let y = difference(net, point, 1);
         let z = difference(net, point, 2);
         put_six(floats, at + 6 * point, x, y, z);
-        point += 1;
     }
 }
 
@@ -147,63 +122,48 @@ fn rest(near: bool, d: i32) -> f32
     requires { nat_abs d ≤ 2 ^ 28 }
     ensures { FloatOf (second_part near d) result }
 {
-    if near {
-        let none: i32 = 0;
-        return none as f32;
-    }
-    second(d)
+    if near { 0.0 } else { second(d) }
 }
 
 // Checks 18, 19 and 20.
-pub fn check(numbers: &[i32], point: usize) -> Answer
+pub fn check(numbers: &[i32], point: usize) -> Result<(), Refusal>
     ensures { stated result ≡ point_verdict numbers.now point }
 {
-    let a18 = refused_if(numbers.len() != NUMBERS_PER_CORNER, 18, numbers.len());
-    if let Answer::Refused(k, p) = a18 {
-        return Answer::Refused(k, p);
-    }
-    let a19 = check_numbers(numbers);
-    if let Answer::Refused(k, p) = a19 {
-        return Answer::Refused(k, p);
-    }
-    refused_if(LAST_POINT < point, 20, point)
+    refused_if(numbers.len() != NUMBERS_PER_CORNER, 18, numbers.len())?;
+    check_numbers(numbers)?;
+    refused_if(POINTS <= point, 20, point)
 }
 
 // A check of one test.
-fn refused_if(fault: bool, number: u8, place: usize) -> Answer
+fn refused_if(fault: bool, number: u8, place: usize) -> Result<(), Refusal>
     ensures { stated result ≡ single number fault place }
 {
     if fault {
-        return Answer::Refused(number, place);
+        return Err(Refusal { number, place });
     }
-    Answer::Done
+    Ok(())
 }
 
 // Check 19, of all the numbers.
-fn check_numbers(numbers: &[i32]) -> Answer
+fn check_numbers(numbers: &[i32]) -> Result<(), Refusal>
     ensures { stated result ≡ lowest_of 19 (length numbers.now) (fault19 numbers.now) }
 {
-    let mut i = 0;
-    while i < numbers.len() {
-        let z = numbers[i];
-        if !is_within(z, MOST_NUMBER) {
-            return Answer::Refused(19, i);
+    for (i, z) in numbers.iter().enumerate() {
+        if !is_within(*z, MOST_NUMBER) {
+            return Err(Refusal {
+                number: 19,
+                place: i,
+            });
         }
-        i += 1;
     }
-    Answer::Done
+    Ok(())
 }
 
 // Whether z lies within ±most.
 fn is_within(z: i32, most: u32) -> bool
     ensures { result ≡ within most z }
 {
-    let w = z as i64;
-    let m = most as i64;
-    if w < -m || m < w {
-        return false;
-    }
-    true
+    z.unsigned_abs() <= most
 }
 
 // The point's difference from b00 on an axis. Two numbers within ±2^27 differ by at most 2^28.
@@ -240,13 +200,7 @@ fn split(x: i32, y: i32, z: i32) -> FloatPoint
 fn is_near(x: i32, y: i32, z: i32) -> bool
     ensures { result ≡ is_near x y z }
 {
-    if !is_within(x, MOST_NEAR) {
-        return false;
-    }
-    if !is_within(y, MOST_NEAR) {
-        return false;
-    }
-    is_within(z, MOST_NEAR)
+    is_within(x, MOST_NEAR) && is_within(y, MOST_NEAR) && is_within(z, MOST_NEAR)
 }
 
 // The first float of a difference: of a near point the difference itself, up to 2^24, else its multiple of 4,096, which an f32 holds up
@@ -256,9 +210,10 @@ fn first(near: bool, d: i32) -> f32
     ensures { FloatOf (first_part near d) result }
 {
     if near {
-        return d as f32;
+        d as f32
+    } else {
+        multiple(d) as f64 as f32
     }
-    multiple(d) as f64 as f32
 }
 
 // The second float of a far difference: what is left, 0 to 4,095.

@@ -5,8 +5,6 @@ use mathlib.Core.List.{List}
 use Prim.Native.Nat.{ℕ, zero, suc, ◌+◌, ◌-◌, ◌*◌, ◌≤◌, ◌<◌}
 use native.Mathlib.Omega.{arith}
 use lib.Dec.{ltb}
-use lib.ListN.{length, get_or, set}
-use lib.Seq.{get_or-set_same, get_or-set_other}
 use borrow.Author.Tests.{le-ltb}
 use Rattle.paper.specs.Scan.{pick_n}
 use Rattle.paper.specs.Mesh.{Mesh}
@@ -15,7 +13,7 @@ use Rattle.paper.specs.Net.{Side, side0, side1, side2, side3}
 use Rattle.paper.specs.Sampling.{side_at}
 use Rattle.paper.specs.Triangles.{begin, turn, row_segments, end_number, curve_number, point_number, level, segments, groups, point_groups, points_before, number_in}
 use Rattle.mesh.proofs.Faces.{start_zero}
-use Rattle.strips.proofs.Cases.{test_equal, number_back}
+use Rattle.strips.proofs.Cases.{number_back}
 use Rattle.strips.specs.declared.NumberedRow.{NumberedRow}
 use Rattle.strips.specs.PointRows.{row_number, ring_place}
 use Rattle.numbering.specs.Meshed.{group_start, curve_start}
@@ -25,11 +23,6 @@ use Rattle.index_list.specs.Rows.{RowOf, upward}
 pub points_zero : (M : Mesh) (levels : List ℕ) → points_before M levels 0 ≡ 0
 unfolding points_before
 points_zero M levels = ap (start_of (point_groups M levels)) (let z : groups * 0 ≡ 0 = omega arith in z) ∙ start_zero (point_groups M levels)
-
-pub starts_step : (f : ℕ → ℕ) (starts : List ℕ) (c x : ℕ) → c < length starts → x ≡ f c → ((e : ℕ) → e < c → get_or starts e 0 ≡ f e)
-    → (e : ℕ) → e < c + 1 → get_or (set starts c x) e 0 ≡ f e
-starts_step f starts c x h p old e l =
-    test_equal e c (λ q z. rw z (get_or-set_same starts c x 0 h ∙ p)) (λ q n. get_or-set_other starts c e x 0 n ∙ old e (omega (arith, n)))
 
 -- ---- the row on the border
 module _ (M : Mesh) (levels : List ℕ) (c : ℕ) (s : Side) (r : NumberedRow) (first : r.first ≡ end_number M levels c (begin s))

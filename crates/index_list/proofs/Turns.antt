@@ -1,5 +1,5 @@
 -- What holds before each turn of the loops over strips, sides and corners.
-use mathlib.Core.Path.{◌≡◌, refl, sym, ap, ◌∙◌, subst}
+use mathlib.Core.Path.{◌≡◌, sym, ap, ◌∙◌, subst}
 use mathlib.Core.List.{List}
 use Prim.Native.Nat.{ℕ, suc, ◌+◌, ◌-◌, ◌*◌, ◌≤◌, ◌<◌}
 use native.Mathlib.Omega.{arith}
@@ -20,7 +20,7 @@ use Rattle.numbering.proofs.Lent.{below_of}
 use Rattle.index_list.proofs.Rows.{ring_of}
 use Rattle.index_list.proofs.Striped.{strip_fewer, strip_index, strip_next, strips_rise, side_first, side_last, corner_first, corner_last, sides_rise}
 use Rattle.index_list.proofs.Striped.{corners_rise}
-use Rattle.strips.proofs.Stood.{fills_join, fills_start, put_join, put_as, range_room, range_step, range_end, filled_list}
+use Rattle.strips.proofs.Stood.{fills_join, put_join, put_as, filled_list}
 
 -- ---- the row of ring k + 1
 pub ring_row_of : {corners low table levels : List ℕ} (M : Mesh) (o : Of M corners low table levels) (c : ℕ) → c < length levels → (side n k w five ring : ℕ) (r : NumberedRow) → side ≤ 3
@@ -44,9 +44,6 @@ module _ (M : Mesh) (levels : List ℕ) (c side at : ℕ) (old : List ℕ) where
     pub from : S 0 ≤ S k
     pub ends : to ≡ at + 3 * (S k - S 0)
     pub fills : Fills (λ x. index_at M levels (3 * S 0 + x)) at (3 * (S k - S 0)) old out
-
-  pub side_none : (lower : NumberedRow) → RowOf M levels c (side_at side) 0 lower → SideAt 0 at old lower
-  side_none lower r = record { row = r; from = omega arith; ends = omega arith; fills = fills_start (index_at M levels) (S 0) (S 0) at old refl }
 
   module _ (leveled : (c : ℕ) → c < corner_count M → (1 ≤ level levels c) × (level levels c ≤ most_parts)) (h : c < corner_count M) (k : ℕ) (l : k < level levels c)
       (to : ℕ) (out : List ℕ) (L U : NumberedRow) (t : SideAt k to out L) (u : RowOf M levels c (side_at side) (suc k) U) where
@@ -182,20 +179,29 @@ module _ {corners low table levels starts : List ℕ} (M : Mesh) (s : PointsStar
     hf : first + count ≤ corner_count M
     hf = omega (arith, s.of.many)
 
-    pub corners_room : (c to len : ℕ) (old out : List ℕ) → c < count → TrianglesPut M levels (triangles_before M levels first) (triangles_before M levels (first + c)) 0 to old out
+    rise : (c d : ℕ) → c ≤ d → d ≤ first + count → triangles_before M levels c ≤ triangles_before M levels d
+    rise c d p q = corners_rise M levels c d p (omega (arith, hf))
+
+    pub corners_room : (c to len : ℕ) (old out : List ℕ) → first ≤ c → c < first + count
+        → TrianglesPut M levels (triangles_before M levels first) (triangles_before M levels c) 0 to old out
         → 3 * (triangles_before M levels (first + count) - triangles_before M levels first) ≤ len
-        → to + 3 * (triangles_before M levels (first + c + 1) - triangles_before M levels (first + c)) ≤ len
-    corners_room c to len old out l p r =
-        range_room (index_at M levels) (triangles_before M levels) (corner_count M) (corners_rise M levels) first count hf 0 c to len old out l p (omega arith)
+        → to + 3 * (triangles_before M levels (c + 1) - triangles_before M levels c) ≤ len
+    corners_room c to len old out b l p r =
+        let x = rise first c b (omega arith) in let y = rise c (c + 1) (omega arith) (omega arith) in
+        let z = rise (c + 1) (first + count) (omega arith) (omega arith) in
+        omega (arith, p.ends)
 
-    pub corners_step : (c to to' : ℕ) (old out new : List ℕ) → c < count → TrianglesPut M levels (triangles_before M levels first) (triangles_before M levels (first + c)) 0 to old out
-        → TrianglesPut M levels (triangles_before M levels (first + c)) (triangles_before M levels (first + c + 1)) to to' out new
-        → TrianglesPut M levels (triangles_before M levels first) (triangles_before M levels (first + (c + 1))) 0 to' old new
-    corners_step = range_step (index_at M levels) (triangles_before M levels) (corner_count M) (corners_rise M levels) first count hf 0
+    pub corners_step : (c to to' : ℕ) (old out new : List ℕ) → first ≤ c → c < first + count
+        → TrianglesPut M levels (triangles_before M levels first) (triangles_before M levels c) 0 to old out
+        → TrianglesPut M levels (triangles_before M levels c) (triangles_before M levels (c + 1)) to to' out new
+        → TrianglesPut M levels (triangles_before M levels first) (triangles_before M levels (c + 1)) 0 to' old new
+    corners_step c to to' old out new b l =
+        put_join (index_at M levels) (triangles_before M levels first) (triangles_before M levels c) (triangles_before M levels (c + 1)) 0 to to' old out new
+        (rise first c b (omega arith)) (rise c (c + 1) (omega arith) (omega arith))
 
-    pub corners_end : (c to : ℕ) (old out : List ℕ) → c ≡ count → TrianglesPut M levels (triangles_before M levels first) (triangles_before M levels (first + c)) 0 to old out
-        → out ≡ begins (triangle_list M levels first count) old
+    pub corners_end : (c to : ℕ) (old out : List ℕ) → c ≡ first + count
+        → TrianglesPut M levels (triangles_before M levels first) (triangles_before M levels c) 0 to old out → out ≡ begins (triangle_list M levels first count) old
     unfolding triangle_list
     corners_end c to old out e p =
         filled_list (index_at M levels) (triangles_before M levels first) (triangles_before M levels (first + count)) to old out
-        (range_end (index_at M levels) (triangles_before M levels) (corner_count M) (corners_rise M levels) first count hf 0 c to old out e p)
+        (subst (λ (x : ℕ). TrianglesPut M levels (triangles_before M levels first) (triangles_before M levels x) 0 to old out) e p)

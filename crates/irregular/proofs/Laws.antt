@@ -4,34 +4,34 @@ use mathlib.Core.Bool.{Bool, true, false, not}
 use mathlib.Core.List.{List}
 use Prim.Native.Nat.{ℕ, ◌+◌, ◌*◌, ◌<◌, ◌≤◌}
 use native.Mathlib.Omega.{arith}
-use lib.ListN.{length, get_or, replicate, length-replicate}
-use borrow.Author.Tests.{lt-ltb, le-ltb, eq-eqb, ne_eqb}
-use Rattle.paper.specs.Scan.{some_below}
+use lib.ListN.{length, replicate, length-replicate}
+use borrow.Author.Tests.{eq-eqb, ne_eqb}
+use Rattle.paper.specs.Scan.{first_below, some_below}
 use Rattle.paper.specs.Mesh.{most_vertices, most_corners, Mesh, vertex_count, face_count, corner_count}
 use Rattle.paper.specs.Links.{valence}
-use Rattle.paper.specs.Faults.{Verdict, sound, fault, verdict, stated, Accepted}
-use Rattle.paper.specs.declared.Answer.{Answer}
-use Rattle.paper.specs.declared.Answer.TheVariants.{Refused as Fault}
+use Rattle.paper.specs.Faults.{Verdict, sound, fault, verdict, stated, Accepted, Answer, Told}
 use Rattle.mesh.specs.Tables.{Named}
+use Rattle.mesh.proofs.Scans.{some_below_lem}
 use Rattle.mesh.proofs.Accepted.{sound_of, few_vertices, few_corners, named_of}
 use Rattle.walk.proofs.Table.{blank}
 use Rattle.checks.specs.columns.Vertices.{vertex_row, count_here}
 use Rattle.checks.specs.columns.Filled.{Countable}
-use Rattle.paper.specs.declared.Irregular.{Irregular}
-use Rattle.paper.specs.declared.Irregular.TheVariants.{Face, Vertex, None, Refused}
+use Rattle.paper.specs.declared.Irregular.TheVariants.{Face, Vertex}
 use Rattle.paper.specs.Irregular.{irregular_face, irregular_vertex, SearchCase, face_found, vertex_found}
 use Rattle.paper.specs.Irregular.{none_found, search_refused, irregular_stated, pick_case, lowest_face, lowest_vertex, found, search_unless, irregular_of, Searched}
-use Rattle.irregular.specs.Found.{FacesSearched}
+use Rattle.irregular.specs.Found.{lowest_if}
+use Rattle.irregular.proofs.Scanned.{position_lowest}
+use Rattle.std.specs.List.{position}
+use lib.Dec.{eqb}
+use Rattle.paper.specs.declared.Refusal.{Refusal}
+use Rattle.std.specs.Prelude.{Option, Some, None, Ok, Err, cond, MatchOption, IsSomeAnd}
+use Rattle.paper.specs.declared.Irregular.{Irregular}
+use Rattle.paper.specs.declared.Search.{Search}
 
--- ---- the tests, as the code makes them
-module _ (sides : List ℕ) (f : ℕ) where
-  pub face_odd : (get_or sides f 0 ≡ 4 → ⊥) → irregular_face sides f ≡ true
-  unfolding irregular_face
-  face_odd h = ap not (ne_eqb (get_or sides f 0) 4 h)
-
-  pub face_square : get_or sides f 0 ≡ 4 → irregular_face sides f ≡ false
-  unfolding irregular_face
-  face_square h = ap not (eq-eqb (get_or sides f 0) 4 h)
+-- ---- the lowest face, by the list; the test of a vertex, as the code makes it
+pub face_found_lem : (sides : List ℕ) → position (λ n. not (eqb n 4)) sides ≡ lowest_if (length sides) (irregular_face sides)
+unfolding irregular_face
+face_found_lem sides = position_lowest (λ n. not (eqb n 4)) sides 0
 
 module _ (corners : List ℕ) (u n : ℕ) (e : n ≡ valence corners u) where
   pub vertex_odd : (n ≡ 4 → ⊥) → irregular_vertex corners u ≡ true
@@ -80,46 +80,41 @@ after_checks : (v : Verdict) (s : SearchCase) → verdict_of s ≡ sound → ver
 after_checks sound s e = e
 after_checks (fault number place) s e = refl
 
-pub verdict_is : (M : Mesh) (r : Irregular) → Searched M r → verdict_of (irregular_stated r) ≡ verdict M
+pub verdict_is : (M : Mesh) (r : Told Search) → Searched M r → verdict_of (irregular_stated r) ≡ verdict M
 unfolding irregular_of
 verdict_is M r c = ap verdict_of c.answers ∙ after_checks (verdict M) (found M) (found_sound M)
 
 -- ---- refused
-pub search_refused_lem : (M : Mesh) {a : Answer} {k p : ℕ} → stated a ≡ verdict M → a ≡ Fault k p → Searched M (Refused k p)
+pub search_refused_lem : (M : Mesh) {a : Answer} (r : Refusal) → stated a ≡ verdict M → a ≡ Err r → Searched M (Err r)
 unfolding irregular_of
-search_refused_lem M e q = record { answers = sym (ap (λ (v : Verdict). search_unless v (found M)) (sym e ∙ ap stated q)) }
+search_refused_lem M r e q = record { answers = sym (ap (λ (v : Verdict). search_unless v (found M)) (sym e ∙ ap stated q)) }
+
+-- ---- what a search says of the two scans
+some_is : (b : Bool) (at x : ℕ) → cond b (Some at) None ≡ Some x → (b ≡ true) × (at ≡ x)
+some_is true at x e = (refl, cc)
+some_is false at x e = cc
+
+none_is : (b : Bool) (at : ℕ) → cond b (Some at) None ≡ None → b ≡ false
+none_is true at e = cc
+none_is false at e = refl
+
+pub lowest_within : (n : ℕ) (f : ℕ → Bool) (x : ℕ) → lowest_if n f ≡ Some x → x < n
+lowest_within n f x e = let s = some_is (some_below n f) (first_below n f) x e in omega (arith, some_below_lem n f s.0, s.1)
 
 -- ---- an accepted mesh: a face; a vertex, where there is no face; neither
-module _ (M : Mesh) (accepted : Accepted M) {f read : ℕ} (s : FacesSearched M.sides f read) where
+module _ (M : Mesh) (accepted : Accepted M) where
   is_found : irregular_of M ≡ found M
   unfolding irregular_of
   is_found = ap (λ (v : Verdict). search_unless v (found M)) accepted
 
-  some_face : f < face_count M → some_below (face_count M) (irregular_face M.sides) ≡ true
-  unfolding some_below
-  some_face h = lt-ltb (lowest_face M) (face_count M) (omega (arith, s.lowest_is))
-
-  no_face_lem : face_count M ≤ f → some_below (face_count M) (irregular_face M.sides) ≡ false
-  unfolding some_below
-  no_face_lem h = le-ltb (lowest_face M) (face_count M) (omega (arith, s.lowest_is))
-
-  pub search_face : f < face_count M → Searched M (Face f read)
+  pub search_face : (f : ℕ) → lowest_if (face_count M) (irregular_face M.sides) ≡ Some f → Searched M (Ok (record { found = Some (Face f); read = f + 1 }))
   unfolding found
-  search_face h = record { answers = sym (is_found ∙ rw (some_face h, ← s.lowest_is, s.read_to h)) }
+  search_face f e = let s = some_is _ _ f e in record { answers = sym (is_found ∙ rw (s.0, s.1)) }
 
-  module _ (h : face_count M ≤ f) {u : ℕ} (e : u ≡ lowest_vertex M) where
-    some_vertex : u < vertex_count M → some_below (vertex_count M) (irregular_vertex M.corners) ≡ true
-    unfolding some_below
-    some_vertex l = lt-ltb (lowest_vertex M) (vertex_count M) (omega (arith, e))
-
-    no_vertex : vertex_count M ≤ u → some_below (vertex_count M) (irregular_vertex M.corners) ≡ false
-    unfolding some_below
-    no_vertex l = le-ltb (lowest_vertex M) (vertex_count M) (omega (arith, e))
-
-    pub search_vertex : u < vertex_count M → Searched M (Vertex u read)
+  module _ (n : lowest_if (face_count M) (irregular_face M.sides) ≡ None) where
+    pub search_vertex : (o : Option ℕ) → o ≡ lowest_if (vertex_count M) (irregular_vertex M.corners) → (r : Option Irregular)
+        → MatchOption o (r ≡ None) (λ u. IsSomeAnd r (λ y. y ≡ Vertex u)) → Searched M (Ok (record { found = r; read = face_count M }))
     unfolding found
-    search_vertex l = record { answers = sym (is_found ∙ rw (no_face_lem h, some_vertex l, ← e, s.read_all h)) }
-
-    pub search_none : vertex_count M ≤ u → Searched M (None read)
-    unfolding found
-    search_none l = record { answers = sym (is_found ∙ rw (no_face_lem h, no_vertex l, s.read_all h)) }
+    search_vertex None e r q = record { answers = rw q (sym (is_found ∙ rw (none_is _ _ n, none_is _ _ (sym e)))) }
+    search_vertex (Some u) e None q = elim q [ ]
+    search_vertex (Some u) e (Some y) q = let s = some_is _ _ u (sym e) in record { answers = rw q (sym (is_found ∙ rw (none_is _ _ n, s.0, s.1))) }

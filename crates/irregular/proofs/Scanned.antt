@@ -1,60 +1,30 @@
--- A search that stops at what it finds: n numbers, a test, the lowest found so far (n where there is none), and the number looked at next.
-use mathlib.Core.Path.{◌≡◌, sym}
+-- A search that stops at what it finds answers the lowest number that passes.
+use mathlib.Core.Path.{◌≡◌}
 use mathlib.Core.Bool.{Bool, true, false}
-use Prim.Native.Nat.{ℕ, ◌+◌, ◌<◌, ◌≤◌}
+use mathlib.Core.List.{List}
+use Prim.Native.Nat.{ℕ, ◌<◌, ◌≤◌}
 use native.Mathlib.Omega.{arith}
-use Rattle.paper.specs.Scan.{first_below}
+use lib.ListN.{length, get_or}
+use borrow.Author.Tests.{lt-ltb, le-ltb}
+use Rattle.std.specs.Prelude.{Option, Some, None, MatchOption}
+use Rattle.std.specs.List.{position, position_or_len}
+use Rattle.std.proofs.lemmas.List.Sums.{fails_before_first, passes_at_first}
 use Rattle.mesh.proofs.ByCases.{by_less}
-use Rattle.mesh.proofs.Scans.{first_at, first_none, fails_step}
+use Rattle.mesh.proofs.Scans.{first_at, some_true, some_false}
+use Rattle.irregular.specs.Found.{lowest_if}
 
-pub record Scanned (n : ℕ) (f : ℕ → Bool) (lowest at : ℕ) : Type 0 where
-  pub within : at ≤ n
-  pub bounded : lowest ≤ n
-  -- none before it passes
-  pub fails : (j : ℕ) → j < at → j < lowest → f j ≡ false
-  -- what is found passes, and was looked at last
-  pub passes : lowest < n → f lowest ≡ true
-  pub stops : lowest < n → at ≡ lowest + 1
+pub found_lowest : (n : ℕ) (f : ℕ → Bool) (Yes No : ℕ → Type 0) → ((k : ℕ) → Yes k → f k ≡ true) → ((k : ℕ) → No k → f k ≡ false) → (r : Option ℕ)
+    → MatchOption r ((k : ℕ) → 0 ≤ k → k < n → No k) (λ i. (0 ≤ i) × (i < n) × Yes i × ((k : ℕ) → 0 ≤ k → k < i → No k)) → r ≡ lowest_if n f
+found_lowest n f Yes No hit miss None h = rw (some_false n f (λ k l. miss k (h k (omega arith) l)))
+found_lowest n f Yes No hit miss (Some i) h =
+    let here = hit i h.2 in
+    rw (some_true n f i h.1 here, first_at n f i h.1 here (λ k l. miss k (h.3 k (omega arith) l)))
 
-pub scan_start : (n : ℕ) (f : ℕ → Bool) → Scanned n f n 0
-scan_start n f = record {
-  within = omega arith;
-  bounded = omega arith;
-  fails = λ j h l. absurd (omega arith);
-  passes = λ h. absurd (omega arith);
-  stops = λ h. absurd (omega arith);
-}
-
-module _ {n : ℕ} {f : ℕ → Bool} {lowest at : ℕ} (s : Scanned n f lowest at) where
-  module _ (h : at < lowest) where
-    pub scan_hit : f at ≡ true → Scanned n f at (at + 1)
-    scan_hit e =
-        let b = s.bounded in
-        record {
-          within = omega arith;
-          bounded = omega arith;
-          fails = λ j i l. s.fails j l (omega arith);
-          passes = λ _. e;
-          stops = λ _. omega arith;
-        }
-
-    pub scan_miss : f at ≡ false → Scanned n f lowest (at + 1)
-    scan_miss e =
-        let b = s.bounded in
-        record {
-          within = omega arith;
-          bounded = b;
-          fails = λ j i l. fails_step f at (λ k q. s.fails k q (omega arith)) e j i;
-          passes = s.passes;
-          stops = λ q. absurd (omega (arith, s.stops q));
-        }
-
-  module _ (h : lowest ≤ at) where
-    pub scan_end : lowest ≡ first_below n f
-    scan_end =
-        by_less lowest n
-        (λ l. sym (first_at n f lowest l (s.passes l) (λ j i. s.fails j (omega arith) i)))
-        (λ l. let b = s.bounded in omega (arith, first_none n f (λ j i. s.fails j (omega arith) (omega arith))))
-
-    pub scan_all : n ≤ lowest → at ≡ n
-    scan_all l = omega (arith, s.within, s.bounded)
+pub position_lowest : {X : Type 0} (test : X → Bool) (xs : List X) (d : X) → position test xs ≡ lowest_if (length xs) (λ i. test (get_or xs i d))
+position_lowest test xs d =
+    let at = position_or_len test xs in
+    let f : ℕ → Bool = λ i. test (get_or xs i d) in
+    let before : (j : ℕ) → j < at → f j ≡ false = λ j h. fails_before_first test xs j d h in
+    by_less at (length xs)
+    (λ h. rw (lt-ltb at (length xs) h, some_true (length xs) f at h (passes_at_first test xs d h), first_at (length xs) f at h (passes_at_first test xs d h) before))
+    (λ h. rw (le-ltb at (length xs) h, some_false (length xs) f (λ j l. before j (omega arith))))

@@ -11,7 +11,7 @@ use borrow.Author.Tests.{eqb-true, eq-eqb, ne_eqb, lt-ltb, not-false}
 use Rattle.paper.specs.Scan.{first_below, some_below, count_below}
 use Rattle.paper.specs.Mesh.{most_sides, Mesh, vertex_count, face_count}
 use Rattle.paper.specs.Links.{valence}
-use Rattle.paper.specs.Faults.{Verdict, sound, stated, Accepted}
+use Rattle.paper.specs.Faults.{Verdict, sound, Accepted, Told}
 use Rattle.paper.specs.Counts.{vertices_with, faces_with, for_each, Counted}
 use Rattle.paper.specs.File.{file_mesh, file_verdict}
 use Rattle.paper.specs.Claims.{LinesAgree}
@@ -22,11 +22,13 @@ use Rattle.mesh.proofs.Links.{values_at}
 use Rattle.mesh.proofs.Rings.{count_none, none_counted}
 use Rattle.mesh.proofs.Verdicts.{sound_right}
 use Rattle.mesh.proofs.Accepted.{sound_of, sides_within, valence_within}
+use Rattle.paper.specs.declared.Irregular.TheVariants.{Face, Vertex}
 use Rattle.paper.specs.declared.Irregular.{Irregular}
-use Rattle.paper.specs.declared.Irregular.TheVariants.{Face, Vertex, None, Refused}
+use Rattle.std.specs.Prelude.{Option, Some, None, Ok, Err}
 use Rattle.paper.specs.Irregular.{irregular_face, irregular_vertex, face_found, vertex_found}
-use Rattle.paper.specs.Irregular.{none_found, irregular_stated, pick_case, lowest_face}
+use Rattle.paper.specs.Irregular.{none_found, case_of, irregular_stated, pick_case, lowest_face}
 use Rattle.paper.specs.Irregular.{lowest_vertex, found, search_unless, irregular_of, Searched, other_line, counts_faces, counts_vertices, is_face, is_vertex, Agreed}
+use Rattle.paper.specs.declared.Search.{Search}
 
 and_none : (a : Bool) → a && false ≡ false
 and_none true = refl
@@ -79,30 +81,34 @@ module _ (n : ℕ) (v : ℕ → ℕ) (most : (j : ℕ) → j < n → v j ≤ mos
   same_lines = by_test (some_below n odd) (λ e. e ∙ sym (some_line e)) (λ e. e ∙ sym (no_line e))
 
 -- ---- what is answered, by what it states: a search by two tests
-found_is : (r : Irregular) (a b : Bool) (f i u j k : ℕ) → irregular_stated r ≡ pick_case a (face_found f i) (pick_case b (vertex_found u j) (none_found k))
-    → (is_face r ≡ a) × (a ≡ false → is_vertex r ≡ b)
-found_is (Face g read) true b f i u j k e = (cc, λ q. cc)
-found_is (Face g read) false true f i u j k e = (cc, λ q. cc)
-found_is (Face g read) false false f i u j k e = (cc, λ q. cc)
-found_is (Vertex v read) true b f i u j k e = (cc, λ q. cc)
-found_is (Vertex v read) false true f i u j k e = (cc, λ q. cc)
-found_is (Vertex v read) false false f i u j k e = (cc, λ q. cc)
-found_is (None read) true b f i u j k e = (cc, λ q. cc)
-found_is (None read) false true f i u j k e = (cc, λ q. cc)
-found_is (None read) false false f i u j k e = (cc, λ q. cc)
-found_is (Refused number place) true b f i u j k e = (cc, λ q. cc)
-found_is (Refused number place) false true f i u j k e = (cc, λ q. cc)
-found_is (Refused number place) false false f i u j k e = (cc, λ q. cc)
+case_is : (o : Option Irregular) (a b : Bool) (read f i u j k : ℕ) → case_of o read ≡ pick_case a (face_found f i) (pick_case b (vertex_found u j) (none_found k))
+    → (is_face o ≡ a) × (a ≡ false → is_vertex o ≡ b)
+case_is (Some (Face g)) true b read f i u j k e = (cc, λ q. cc)
+case_is (Some (Face g)) false true read f i u j k e = (cc, λ q. cc)
+case_is (Some (Face g)) false false read f i u j k e = (cc, λ q. cc)
+case_is (Some (Vertex v)) true b read f i u j k e = (cc, λ q. cc)
+case_is (Some (Vertex v)) false true read f i u j k e = (cc, λ q. cc)
+case_is (Some (Vertex v)) false false read f i u j k e = (cc, λ q. cc)
+case_is None true b read f i u j k e = (cc, λ q. cc)
+case_is None false true read f i u j k e = (cc, λ q. cc)
+case_is None false false read f i u j k e = (cc, λ q. cc)
+
+found_is : (r : Told Search) (a b : Bool) (f i u j k : ℕ) → irregular_stated r ≡ pick_case a (face_found f i) (pick_case b (vertex_found u j) (none_found k))
+    → (s : Search) × (r ≡ Ok s) × (is_face s.found ≡ a) × (a ≡ false → is_vertex s.found ≡ b)
+found_is (Ok s) a b f i u j k e = let is = case_is s.found a b s.read f i u j k e in (s, refl, is.0, is.1)
+found_is (Err refusal) true b f i u j k e = cc
+found_is (Err refusal) false true f i u j k e = cc
+found_is (Err refusal) false false f i u j k e = cc
 
 -- ---- of an accepted mesh
-module _ (M : Mesh) (lines : Counts) (r : Irregular) (accepted : Accepted M) (counts : Counted M lines) (call : Searched M r) where
+module _ (M : Mesh) (lines : Counts) (r : Told Search) (accepted : Accepted M) (counts : Counted M lines) (call : Searched M r) where
   abbrev faces : Bool
   faces = some_below (face_count M) (irregular_face M.sides)
 
   abbrev vertices : Bool
   vertices = some_below (vertex_count M) (irregular_vertex M.corners)
 
-  answered : (is_face r ≡ faces) × (faces ≡ false → is_vertex r ≡ vertices)
+  answered : (s : Search) × (r ≡ Ok s) × (is_face s.found ≡ faces) × (faces ≡ false → is_vertex s.found ≡ vertices)
   unfolding irregular_of found
   answered =
       found_is r faces vertices (lowest_face M) (lowest_face M + 1) (lowest_vertex M) (face_count M) (face_count M)
@@ -120,12 +126,13 @@ module _ (M : Mesh) (lines : Counts) (r : Irregular) (accepted : Accepted M) (co
       same_lines (vertex_count M) (valence M.corners) (λ u h. (valence_within M.corners u ((sound_of M accepted).twelve u h)).1)
       ∙ ap (λ (l : List ℕ). some_below (most_sides + 1) (other_line l)) (sym counts.cornered)
 
-  pub agreed : Agreed lines r
-  agreed = record { faces = answered.0 ∙ faces_line; vertices = λ e. answered.1 (faces_line ∙ e) ∙ vertices_line }
+  pub agreed : (s : Search) × (r ≡ Ok s) × Agreed lines s.found
+  agreed =
+      (answered.0, answered.1, record { faces = answered.2 ∙ faces_line; vertices = λ e. answered.3 (faces_line ∙ e) ∙ vertices_line })
 
 -- ---- of a file that `inspect` does not refuse
 pub lines_agree : LinesAgree
 unfolding file_verdict
-lines_agree file counted s r survey done call =
-    let e : file_verdict file counted ≡ sound = sym survey.answers ∙ ap stated done in
-    agreed (file_mesh file) s.counts r (sound_right _ _ e) (survey.counts e) call
+lines_agree file counted counts r survey call =
+    let e : file_verdict file counted ≡ sound = sym survey.answers in
+    agreed (file_mesh file) counts r (sound_right _ _ e) survey.counts call

@@ -1,133 +1,150 @@
--- Lines in a buffer: bytes moved to its beginning, a line that was found, and none.
+-- Lines in a buffer: where a line feed was found and where none was, and a line read after bytes that were kept.
 use mathlib.Core.Path.{◌≡◌, refl, sym, ap, ◌∙◌}
-use mathlib.Core.Bool.{Bool, true, true≢false}
+use mathlib.Core.Bool.{Bool, true, false, cond, true≢false}
 use mathlib.Core.List.{List, ◌++◌}
-use mathlib.Core.Logic.{◌⊎◌, inl, inr, ⊎_elim}
-use Prim.Native.Nat.{ℕ, ◌+◌, ◌<◌, ◌≤◌}
+use mathlib.Core.Logic.{inl, inr, ⊎_elim}
+use Prim.Native.Nat.{ℕ, ◌+◌, ◌-◌, ◌<◌, ◌≤◌}
 use native.Mathlib.Omega.{arith}
-use borrow.Author.Count.{below_more}
-use lib.ListN.{length, take, get_or, set, length-set, get_or-append}
-use lib.Seq.{length-take-le, get_or-take, get_or-set_same, get_or-set_other}
-use Rattle.line_input.specs.Places.{feed, Lined, LineOf, NoLine, FirstFeed, MovedDown, WholeLine, LineRead, NextLine}
+use borrow.Author.Tests.{ltb-true, ltb-false, eqb-true}
+use lib.Dec.{ltb}
+use lib.ListN.{length, take, drop, get_or, length-drop, get_or-append}
+use lib.Seq.{length-take-le, get_or-take, get_or-drop}
+use Rattle.std.specs.Prelude.{Ok, Err, Some, None, ◌==◌}
+use Rattle.std.specs.List.{position, position_or_len}
+use Rattle.std.proofs.lemmas.Option.{none-some, same_Some}
+use Rattle.std.proofs.lemmas.Bool.{cases_Bool}
+use Rattle.std.specs.declared.option.Option.{Option}
+use Rattle.std.specs.declared.result.Result.{Result}
+use Rattle.std.proofs.lemmas.List.Sums.{fails_before_first, passes_at_first}
+use Rattle.line_input.specs.Places.{feed, IfLine, LineRead, NextLine}
 use Rattle.line_input.specs.declared.Held.{Held}
 use Rattle.line_input.specs.declared.Line.{Line}
+use Rattle.line_input.specs.declared.LineError.{LineError}
 
--- ---- the first i bytes were moved, and the others not yet
-pub record Moving (old : List ℕ) (at i : ℕ) (new : List ℕ) : Type 0 where
-  pub same : length new ≡ length old
-  pub moved : (k : ℕ) → k < i → get_or new k 0 ≡ get_or old (at + k) 0
-  pub left : (k : ℕ) → i ≤ k → get_or new k 0 ≡ get_or old k 0
+abbrev pub is_feed : ℕ → Bool
+is_feed byte = byte == feed
 
-pub moving_none : (old : List ℕ) (at : ℕ) → Moving old at 0 old
-moving_none old at = record { same = refl; moved = λ k h. absurd (omega arith); left = λ k h. refl }
+-- ---- the first line feed of some bytes
+none_fed : (bytes : List ℕ) → position is_feed bytes ≡ None → length bytes ≤ position_or_len is_feed bytes
+none_fed bytes e = ⊎_elim
+    (λ t. absurd (none-some (position_or_len is_feed bytes)
+    (sym e ∙ ap (λ b. cond b (Some (position_or_len is_feed bytes)) None) t)))
+    (λ f. ltb-false (position_or_len is_feed bytes) (length bytes) f)
+    (cases_Bool (ltb (position_or_len is_feed bytes) (length bytes)))
 
-pub moving_more : (old : List ℕ) (at i : ℕ) (new : List ℕ) → i < length new → Moving old at i new → Moving old at (i + 1) (set new i (get_or new (at + i) 0))
-moving_more old at i new h m = record {
-  same = length-set new i (get_or new (at + i) 0) ∙ m.same;
-  moved = below_more (λ (k : ℕ). get_or (set new i (get_or new (at + i) 0)) k 0 ≡ get_or old (at + k) 0) i
-      (λ k l. get_or-set_other new i k (get_or new (at + i) 0) 0 (λ (e : k ≡ i). omega arith) ∙ m.moved k l)
-      (get_or-set_same new i (get_or new (at + i) 0) 0 h ∙ m.left (at + i) (omega arith));
-  left = λ k l. get_or-set_other new i k (get_or new (at + i) 0) 0 (λ (e : k ≡ i). omega arith) ∙ m.left k (omega arith);
-}
+pub none_found : (bytes : List ℕ) → position is_feed bytes ≡ None → (k : ℕ) → k < length bytes → get_or bytes k 0 ≡ feed → ⊥
+none_found bytes e k h q =
+    let l = none_fed bytes e in
+    let f = fails_before_first is_feed bytes k 0 (omega arith) in
+    absurd (true≢false (sym (ap is_feed q) ∙ f))
 
-pub moved_all : (old : List ℕ) (at count i : ℕ) (new : List ℕ) → count ≤ i → Moving old at i new → MovedDown old at count new
-moved_all old at count i new h m = record { same = m.same; moved = λ k l. m.moved k (omega arith) }
+-- the place of one
+pub record Found (bytes : List ℕ) (i : ℕ) : Type 0 where
+  pub inside : i < length bytes
+  pub before : (k : ℕ) → k < i → get_or bytes k 0 ≡ feed → ⊥
+  pub here : get_or bytes i 0 ≡ feed
 
--- ---- a line that was found
-whole_of : (buffer : List ℕ) (start end next held : ℕ) (r : Line) → LineOf start end next held r
-    → ((k : ℕ) → k < end → start ≤ k → get_or buffer k 0 ≡ feed → ⊥)
-    → ((next ≡ end + 1) × (get_or buffer end 0 ≡ feed)) ⊎ ((next ≡ end) × (held ≡ end)) → WholeLine buffer r
-whole_of buffer start end next held r o none after = record {
-  went_well = o.ok_is;
-  plain = λ k l h. none k (omega (arith, o.end_is)) (omega (arith, o.start_is));
-  after = ⊎_elim
-      (λ p. inl (o.at_is ∙ p.0 ∙ ap (λ (n : ℕ). n + 1) (sym o.end_is), ap (λ (n : ℕ). get_or buffer n 0) o.end_is ∙ p.1))
-      (λ p. inr (o.at_is ∙ p.0 ∙ sym o.end_is, o.held_is ∙ p.1 ∙ sym o.end_is))
-      after;
-}
+pub one_found : (bytes : List ℕ) (i : ℕ) → position is_feed bytes ≡ Some i → Found bytes i
+one_found bytes i e = ⊎_elim there nowhere (cases_Bool (ltb (position_or_len is_feed bytes) (length bytes)))
+  where
+    nowhere : ltb (position_or_len is_feed bytes) (length bytes) ≡ false → Found bytes i
+    nowhere f = absurd (none-some i (sym (ap (λ b. cond b (Some (position_or_len is_feed bytes)) None) f) ∙ e))
 
-lined_of : (start end next held room : ℕ) (r : Line) → LineOf start end next held r → start ≤ end → end ≤ held → next ≤ held → held ≤ room → Lined r room
-lined_of start end next held room r o a b c d = record {
-  started = omega (arith, o.start_is, o.end_is);
-  ended = omega (arith, o.end_is);
-  taken = omega (arith, o.at_is, o.held_is);
-  within = omega (arith, o.held_is);
-}
+    there : ltb (position_or_len is_feed bytes) (length bytes) ≡ true → Found bytes i
+    there t =
+        let p = same_Some (position_or_len is_feed bytes) i (sym (ap (λ b. cond b (Some (position_or_len is_feed bytes)) None) t) ∙ e) in
+        let l = ltb-true (position_or_len is_feed bytes) (length bytes) t in
+        record {
+          inside = omega arith;
+          before = λ k h q. absurd (true≢false (sym (ap is_feed q) ∙ fails_before_first is_feed bytes k 0 (omega arith)));
+          here = ap (λ n. get_or bytes n 0) (sym p) ∙ eqb-true _ _ (passes_at_first is_feed bytes 0 l);
+        }
 
-lined_none : (ok : Bool) (r : Line) (room : ℕ) → NoLine ok r → Lined r room
-lined_none ok r room n = let l = n.nowhere in record {
-  started = l.started;
-  ended = omega (arith, l.ended);
-  taken = l.taken;
-  within = omega (arith, l.within);
-}
+-- ---- a line that was found, of what is held
+not_none : (l : Line) → ◌≡◌ {A = Result (Option Line) LineError} (Ok (Some l)) (Ok None) → ⊥
+not_none l e = none-some l (grind arith)
+
+module _ (old : List ℕ) (held : Held) (onward : held.at ≤ held.end) (inside : held.end ≤ length old) where
+  pub next_held : (i : ℕ) → Found (take (held.end - held.at) (drop held.at old)) i
+      → NextLine old held (Ok (Some (record { start = held.at; end = held.at + i; held = record { at = held.at + i + 1; end = held.end } }))) old
+  next_held i f =
+      let l = length-drop held.at old in
+      let m = length-take-le (held.end - held.at) (drop held.at old) (omega arith) in
+      let h = f.inside in
+      record {
+        lined = record { started = omega arith; ended = omega arith; taken = omega arith; within = inside };
+        same = refl;
+        begins = λ k h. refl;
+        all = omega arith;
+        whole = record {
+          plain = λ k h s q. f.before (k - held.at) (omega arith) (seen (k - held.at) (omega arith)
+              ∙ ap (λ n. get_or old n 0) (omega arith) ∙ q);
+          after = inl (refl, sym (seen i (omega arith)) ∙ f.here);
+        };
+        none = λ e. absurd (not_none _ e);
+      }
+    where
+      seen : (k : ℕ) → k < held.end - held.at → get_or (take (held.end - held.at) (drop held.at old)) k 0 ≡ get_or old (held.at + k) 0
+      seen k h = get_or-take (held.end - held.at) (drop held.at old) k 0 h ∙ get_or-drop held.at old k 0
 
 -- ---- a line read after bytes that were kept
 pub stays_front : (kept : ℕ) (old rest : List ℕ) → kept ≤ length old → (k : ℕ) → k < kept → get_or (take kept old ++ rest) k 0 ≡ get_or old k 0
 stays_front kept old rest h k l = get_or-append (take kept old) rest 0 k (omega (arith, length-take-le kept old h)) ∙ get_or-take kept old k 0 l
 
-module _ (old new : List ℕ) (kept : ℕ) (same : length new ≡ length old) (stays : (k : ℕ) → k < kept → get_or new k 0 ≡ get_or old k 0) where
-  pub read_none : (ok : Bool) (r : Line) → NoLine ok r → (ok ≡ true → kept ≡ 0) → LineRead old kept r new
-  read_none ok r n z = record {
-    lined = lined_none ok r (length old) n;
-    same = same;
-    stays = stays;
-    first = λ e. absurd (true≢false (sym e ∙ n.found_is));
-    whole = λ e. absurd (true≢false (sym e ∙ n.found_is));
-    none = λ f t. z (sym n.ok_is ∙ t);
-  }
-
-  read_found : (end next held : ℕ) (r : Line) → LineOf 0 end next held r → kept ≤ held → end ≤ held → next ≤ held → held ≤ length old
-      → ((k : ℕ) → k < end → 0 ≤ k → get_or new k 0 ≡ feed → ⊥)
-      → ((next ≡ end + 1) × (get_or new end 0 ≡ feed)) ⊎ ((next ≡ end) × (held ≡ end)) → LineRead old kept r new
-  read_found end next held r o a b c d none after = record {
-    lined = lined_of 0 end next held (length old) r o (omega arith) b c d;
-    same = same;
-    stays = stays;
-    first = λ e. (o.start_is, omega (arith, o.held_is));
-    whole = λ e. whole_of new 0 end next held r o none after;
-    none = λ f. absurd (true≢false (sym o.found_is ∙ f));
-  }
+module _ (old new : List ℕ) (kept end : ℕ) (same : length new ≡ length old) (stays : (k : ℕ) → k < kept → get_or new k 0 ≡ get_or old k 0)
+    (after : kept ≤ end) (inside : end ≤ length old) where
+  seen : (k : ℕ) → k < end → get_or (take end new) k 0 ≡ get_or new k 0
+  seen k h = get_or-take end new k 0 h
 
   -- up to a line feed, or up to the end of what is held
-  pub read_to_feed : (f held : ℕ) (r : Line) → LineOf 0 f (f + 1) held r → FirstFeed new 0 held f → f < held → kept ≤ held → held ≤ length old
-      → LineRead old kept r new
-  read_to_feed f held r o g h a d =
-      read_found f (f + 1) held r o a (omega arith) (omega arith) d g.none (inl (refl, g.here h))
+  pub read_to_feed : (f : ℕ) → Found (take end new) f
+      → LineRead old kept (Ok (Some (record { start = 0; end = f; held = record { at = f + 1; end = end } }))) new
+  read_to_feed f g =
+      let m = length-take-le end new (omega arith) in
+      let h = g.inside in
+      record {
+        lined = record { started = omega arith; ended = omega arith; taken = omega arith; within = inside };
+        same = same;
+        stays = stays;
+        first = (refl, after);
+        whole = record {
+          plain = λ k h s q. g.before k h (seen k (omega arith) ∙ q);
+          after = inl (refl, sym (seen f (omega arith)) ∙ g.here);
+        };
+        none = λ e. absurd (not_none _ e);
+      }
 
-  pub read_to_end : (f held : ℕ) (r : Line) → LineOf 0 held held held r → FirstFeed new 0 held f → held ≤ f → kept ≤ held → held ≤ length old
-      → LineRead old kept r new
-  read_to_end f held r o g h a d =
-      read_found held held held r o a (omega arith) (omega arith) d (λ k l z. g.none k (omega arith) z) (inr (refl, refl))
+  pub read_to_end : position is_feed (take end new) ≡ None
+      → LineRead old kept (Ok (Some (record { start = 0; end = end; held = record { at = end; end = end } }))) new
+  read_to_end e =
+      let m = length-take-le end new (omega arith) in
+      record {
+        lined = record { started = omega arith; ended = omega arith; taken = omega arith; within = inside };
+        same = same;
+        stays = stays;
+        first = (refl, after);
+        whole = record {
+          plain = λ k h s q. none_found (take end new) e k (omega arith) (seen k h ∙ q);
+          after = inr (refl, refl);
+        };
+        none = λ e. absurd (not_none _ e);
+      }
 
--- ---- the next line: of what is held, or after more was read
-module _ (old : List ℕ) (held : Held) (inside : held.end ≤ length old) where
-  pub next_held : (f : ℕ) (r : Line) → LineOf held.at f (f + 1) held.end r → FirstFeed old held.at held.end f → f < held.end
-      → NextLine old held r old
-  next_held f r o g h = record {
-    lined = lined_of held.at f (f + 1) held.end (length old) r o g.onward (omega arith) (omega arith) inside;
-    same = refl;
-    begins = λ e k l. ap (λ (n : ℕ). get_or old (n + k) 0) o.start_is;
-    all = λ e. omega (arith, o.start_is, o.held_is);
-    whole = λ e. whole_of old held.at f (f + 1) held.end r o g.none (inl (refl, g.here h));
-    none = λ e. absurd (true≢false (sym o.found_is ∙ e));
-  }
+-- ---- the next line, after more was read
+if_line : (r : Result (Option Line) LineError) {P Q : Line → Type 0} → ((l : Line) → P l → Q l) → IfLine r P → IfLine r Q
+if_line (Ok None) f h = h
+if_line (Ok (Some l)) f h = f l h
+if_line (Err e) f h = h
 
-  pub next_read : (kept : ℕ) (mid new : List ℕ) (r : Line) → held.at + kept ≡ held.end → MovedDown old held.at kept mid → LineRead mid kept r new
-      → NextLine old held r new
-  next_read kept mid new r q m l = record {
-    lined = record {
-      started = l.lined.started;
-      ended = omega (arith, l.lined.ended, m.same);
-      taken = l.lined.taken;
-      within = omega (arith, l.lined.within, m.same);
-    };
-    same = l.same ∙ m.same;
-    begins = λ e k h.
-        let z : r.start + k ≡ k = omega (arith, (l.first e).0) in
-        let i : k < kept = omega arith in
-        ap (λ (n : ℕ). get_or new n 0) z ∙ l.stays k i ∙ m.moved k i;
-    all = λ e. omega (arith, (l.first e).0, (l.first e).1);
-    whole = l.whole;
-    none = λ e t. omega (arith, l.none e t);
-  }
+pub next_read : (old mid new : List ℕ) (held : Held) (kept : ℕ) (r : Result (Option Line) LineError) → held.at + kept ≡ held.end
+    → length mid ≡ length old → ((k : ℕ) → k < kept → get_or mid k 0 ≡ get_or old (held.at + k) 0) → LineRead mid kept r new → NextLine old held r new
+next_read old mid new held kept r q same moved l = record {
+  lined = if_line r (λ x p. record { started = p.started; ended = omega (arith, p.ended); taken = p.taken; within = omega (arith, p.within) }) l.lined;
+  same = l.same ∙ same;
+  begins = if_line r (λ x p k h.
+      let i : k < kept = omega arith in
+      ap (λ n. get_or new n 0) (omega (arith, p.0)) ∙ l.stays k i ∙ moved k i) l.first;
+  all = if_line r (λ x p. omega (arith, p.0, p.1)) l.first;
+  whole = l.whole;
+  none = λ e. omega (arith, l.none e);
+}

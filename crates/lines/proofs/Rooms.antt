@@ -12,15 +12,14 @@ use lib.Seq.{length-take-le}
 use borrow.Author.Tests.{eq-eqb, ne_eqb, eqb-true}
 use Rattle.mesh.proofs.Scans.{ways}
 use Rattle.paper.specs.Mesh.{most_sides}
-use Rattle.paper.specs.declared.Answer.{Answer}
-use Rattle.paper.specs.declared.Answer.TheVariants.{Done, Refused}
 use Rattle.paper.specs.declared.Counts.{Counts}
-use Rattle.paper.specs.declared.Summary.{Summary}
 use Rattle.io.specs.Counts.{IsPrefixLen as Within}
 use Rattle.streams.specs.text.Text.{decimal, Put}
-use Rattle.lines.specs.Lines.{ended, three_line, count_line, count_lines, answer_lines, summary_lines}
+use Rattle.lines.specs.Lines.{ended, three_line, count_line, count_lines, summary_lines}
 use Rattle.streams.proofs.text.Putting.{put_fits}
 use Rattle.streams.proofs.text.Decimals.{decimal_short}
+use Rattle.std.specs.Prelude.{Ok, Err}
+use Rattle.paper.specs.Faults.{Told}
 
 -- the line of a file, and one for each m from 0 on
 abbrev answer_room : ℕ
@@ -83,22 +82,22 @@ lines_short cornered sided (suc m) =
     let l = length-append (count_lines cornered sided m) (count_line m (get_or cornered m 0) (get_or sided m 0)) in
     omega arith
 
-pub answer_short : (a : Answer) (n : Counts) → length (answer_lines a n) ≤ answer_room
-answer_short Done n =
+pub summary_short : (s : Told Counts) → length (summary_lines s) ≤ answer_room
+summary_short (Ok n) =
     let h = lines_short n.cornered n.sided (most_sides + 1) in
     let k = three_short n.vertices n.faces n.corners in
     let l = length-append (three_line n.vertices n.faces n.corners) (count_lines n.cornered n.sided (most_sides + 1)) in
     omega arith
-answer_short (Refused k p) n =
-    let h = ended_short k 32 in
-    let i = ended_short p 10 in
-    let l = length-append (ended k 32) (ended p 10) in
+summary_short (Err r) =
+    let h = ended_short r.number 32 in
+    let i = ended_short r.place 10 in
+    let l = length-append (ended r.number 32) (ended r.place 10) in
     omega arith
 
 -- what is printed of a summary stands in the buffer as it is
-pub summary_put : (s : Summary) (a : Answer) {old new : List ℕ} {r : ℕ} → s.answer ≡ a → length old ≡ answer_room
-    → Put old 0 (answer_lines a s.counts) new r → Within r new × (take r new ≡ summary_lines s)
-summary_put s a {old} {new} {r} e l p =
+pub summary_put : (s t : Told Counts) {old new : List ℕ} {r : ℕ} → s ≡ t → length old ≡ answer_room
+    → Put old 0 (summary_lines t) new r → Within r new × (take r new ≡ summary_lines s)
+summary_put s t {old} {new} {r} e l p =
     let h = p.inside (omega arith) in
-    let k = answer_short a s.counts in
-    ((h, sym (length-take-le r new h)), put_fits p (omega arith) ∙ ap (λ (x : Answer). answer_lines x s.counts) (sym e))
+    let k = summary_short t in
+    ((h, sym (length-take-le r new h)), put_fits p (omega arith) ∙ ap summary_lines (sym e))

@@ -1,11 +1,9 @@
 -- The lines of `inspect`: one space parts the words of a line, numbers are decimal, and a line feed ends each line.
-use Rattle.std.specs.Prelude.{cond, ◌&&◌, List, [], ◌∷◌, ◌++◌, ℕ, zero, suc, ◌+◌, eqb, get_or}
+use Rattle.std.specs.Prelude.{cond, ◌&&◌, List, [], ◌∷◌, ◌++◌, ℕ, zero, suc, ◌+◌, eqb, get_or, Ok, Err}
 use Rattle.paper.specs.Mesh.{most_sides}
-use Rattle.paper.specs.declared.Answer.{Answer}
-use Rattle.paper.specs.declared.Answer.TheVariants.{Done, Refused}
 use Rattle.paper.specs.declared.Counts.{Counts}
-use Rattle.paper.specs.declared.Summary.{Summary}
 use Rattle.streams.specs.text.Text.{decimal}
+use Rattle.paper.specs.Faults.{Told}
 
 abbrev pub space : ℕ
 space = 32
@@ -46,10 +44,7 @@ abbrev pub mesh_lines : Counts → List ℕ
 mesh_lines n =
     mesh_word ++ (three_line n.vertices n.faces n.corners ++ count_lines n.cornered n.sided (most_sides + 1))
 
-abbrev pub answer_lines : Answer → Counts → List ℕ
-answer_lines Done n = mesh_lines n
-answer_lines (Refused k p) n = refused_line k p
-
--- what `inspect` prints of a summary
-abbrev pub summary_lines : Summary → List ℕ
-summary_lines s = answer_lines s.answer s.counts
+-- what `inspect` prints of what `survey` answers
+abbrev pub summary_lines : Told Counts → List ℕ
+summary_lines (Ok counts) = mesh_lines counts
+summary_lines (Err refusal) = refused_line refusal.number refusal.place

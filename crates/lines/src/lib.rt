@@ -8,7 +8,7 @@ ghost use Rattle.paper.specs.Mesh.{most_sides};
 ghost use Rattle.streams.specs.text.Text.{Put};
 ghost use Rattle.lines.specs.Lines.{ended, three_line, refused_line, count_line, count_lines, mesh_lines, summary_lines};
 
-use paper::{Answer, Counts, NUMBERS, Summary};
+use paper::{Counts, NUMBERS, Refusal};
 use streams::output;
 use streams::text::{put_byte, put_number, put_word};
 
@@ -37,7 +37,7 @@ pub fn put_refusal(lines: &mut [u8], at: usize, number: u8, place: usize) -> usi
     ensures { Put lines.old at (refused_line number place) lines.new result }
 {
     let word = put_word(lines, at, b"refused ");
-    let first = put_ended(lines, word, number as u64, b' ');
+    let first = put_ended(lines, word, u64::from(number), b' ');
     put_ended(lines, first, place as u64, b'\n')
 }
 
@@ -45,8 +45,8 @@ pub fn put_refusal(lines: &mut [u8], at: usize, number: u8, place: usize) -> usi
 fn put_count(lines: &mut [u8], at: usize, m: usize, vertices: u16, faces: u16) -> usize
     ensures { Put lines.old at (count_line m vertices faces) lines.new result }
 {
-    let v = vertices as u64;
-    let f = faces as u64;
+    let v = u64::from(vertices);
+    let f = u64::from(faces);
     if v + f == 0 {
         return at;
     }
@@ -63,10 +63,8 @@ fn put_counts(
     ensures { Put lines.old from (count_lines cornered.now sided.now (most_sides + 1)) lines.new result }
 {
     let mut at = from;
-    let mut m = 0;
-    while m < NUMBERS {
+    for m in 0..NUMBERS {
         at = put_count(lines, at, m, cornered[m], sided[m]);
-        m += 1;
     }
     at
 }
@@ -83,20 +81,17 @@ fn put_mesh(lines: &mut [u8], at: usize, counts: Counts) -> usize
         counts.faces as u64,
         counts.corners as u64,
     );
-    let cornered = counts.cornered;
-    let sided = counts.sided;
-    put_counts(lines, first, &cornered, &sided)
+    put_counts(lines, first, &counts.cornered, &counts.sided)
 }
 
 // What `inspect` prints of a summary.
-pub fn put_summary(lines: &mut [u8; ANSWER], summary: Summary) -> usize
+pub fn put_summary(lines: &mut [u8; ANSWER], summary: Result<Counts, Refusal>) -> usize
     ensures within { Within result lines.new }
     ensures lines_after { take result lines.new ≡ summary_lines summary }
 {
-    let answer = summary.answer;
-    match answer {
-        Answer::Refused(number, place) => put_refusal(lines, 0, number, place),
-        Answer::Done => put_mesh(lines, 0, summary.counts),
+    match summary {
+        Ok(counts) => put_mesh(lines, 0, counts),
+        Err(refusal) => put_refusal(lines, 0, refusal.number, refusal.place),
     }
 }
 

@@ -14,7 +14,7 @@ pub(crate) fn put_worded(lines: &mut [u8], number: u8, place: usize) -> usize
     ensures { Worded lines.old number place lines.new result }
 {
     let word = put_word(lines, 0, b"refused ");
-    let first = put_number(lines, word, number as u64);
+    let first = put_number(lines, word, u64::from(number));
     let last = put_row(
         lines,
         first,
@@ -63,82 +63,31 @@ pub(crate) fn put_worded(lines: &mut [u8], number: u8, place: usize) -> usize
     put_byte(lines, last, b'\n')
 }
 
-// A number's row after the number, with the place before the colon; nothing where there is no such row.
+// A number's row after the number, with the place before the colon; nothing where there is no such row. The first row is that of 1.
 fn put_row(lines: &mut [u8], at: usize, rows: &[u8], number: u8, place: u64) -> usize
     ensures { PlacePut lines.old at place lines.new result }
 {
-    let start = row_start(rows, number);
-    let name = past_digits(rows, start);
-    let colon = find(rows, name, b':');
-    let end = find(rows, colon, b'\n');
-    let to = put_place(lines, at, &rows[name..colon], place);
-    put_word(lines, to, &rows[colon..end])
+    let row = rows
+        .split(|byte| *byte == b'\n')
+        .nth(usize::from(number.saturating_sub(1)))
+        .unwrap_or(b"");
+    let digits = row.iter().take_while(|byte| byte.is_ascii_digit()).count();
+    let row = &row[digits..];
+    let Some(colon) = row.iter().position(|byte| *byte == b':') else {
+        return at;
+    };
+    let to = put_place(lines, at, &row[..colon], place);
+    put_word(lines, to, &row[colon..])
 }
 
 // What the place is, and the place, where the row says it.
 fn put_place(lines: &mut [u8], at: usize, name: &[u8], place: u64) -> usize
     ensures { Put lines.old at (placed name.now place) lines.new result }
 {
-    if name.len() == 0 {
+    if name.is_empty() {
         return at;
     }
     let word = put_word(lines, at, name);
     let space = put_byte(lines, word, b' ');
     put_number(lines, space, place)
-}
-
-// Where the row of a number starts, the first being that of 1; where there is none, the end.
-fn row_start(rows: &[u8], number: u8) -> usize
-    ensures { result ≤ length rows.now }
-{
-    let mut start = 0;
-    let mut row: u8 = 1;
-    while row < number {
-        start = after_row(rows, start);
-        row += 1;
-    }
-    start
-}
-
-// Where the next row starts.
-fn after_row(rows: &[u8], from: usize) -> usize
-    requires { from ≤ length rows.now }
-    ensures { result ≤ length rows.now }
-{
-    let end = find(rows, from, b'\n');
-    if end < rows.len() {
-        return end + 1;
-    }
-    end
-}
-
-// The first place from here on that has this byte, or the end.
-fn find(rows: &[u8], from: usize, byte: u8) -> usize
-    requires { from ≤ length rows.now }
-    ensures { (from ≤ result) × (result ≤ length rows.now) }
-{
-    let mut i = from;
-    while i < rows.len() {
-        if rows[i] == byte {
-            return i;
-        }
-        i += 1;
-    }
-    i
-}
-
-// The first place from here on that has no digit, or the end.
-fn past_digits(rows: &[u8], from: usize) -> usize
-    requires { from ≤ length rows.now }
-    ensures { (from ≤ result) × (result ≤ length rows.now) }
-{
-    let mut i = from;
-    while i < rows.len() {
-        let byte = rows[i];
-        if byte < b'0' || b'9' < byte {
-            return i;
-        }
-        i += 1;
-    }
-    i
 }

@@ -1,22 +1,32 @@
 -- What each test of the code says of the fault at its place.
-use mathlib.Core.Path.{◌≡◌, ap, ◌∙◌, sym}
-use mathlib.Core.Bool.{true, false, not}
+use mathlib.Core.Path.{◌≡◌, refl, ap, ◌∙◌, sym}
+use mathlib.Core.Bool.{Bool, true, false, not, cond}
 use mathlib.Core.List.{List}
-use Prim.Native.Nat.{ℕ, ◌*◌, ◌/◌, ◌%◌, ◌^◌, ◌<◌, ◌≤◌}
-use lib.Dec.{eqb}
+use Prim.Native.Nat.{ℕ, ◌*◌, ◌/◌, ◌%◌, ◌<◌, ◌≤◌}
+use lib.Dec.{ltb, eqb}
 use lib.ListN.{length, get_or}
-use lib.IntN.{ℤ, pos, negsuc}
-use lib.Signed.{lt_z, mag}
-use mir.Syntax.{w32}
-use mir.Val.{to_z, of_z}
-use mir.ValLaws.{to_z-of_z}
-use borrow.Author.Tests.{lt-ltb, le-ltb, eq-eqb, ne_eqb}
-use Rattle.paper.specs.Mesh.{most_vertices, most_faces, most_corners, most_coordinate, most_sharpness, plain}
+use borrow.Author.Tests.{le-ltb, ltb-true, ltb-false, eq-eqb, ne_eqb}
+use Rattle.paper.specs.Mesh.{most_vertices, most_faces, most_corners, most_sharpness, plain}
 use Rattle.paper.specs.Corners.{sum_of}
-use Rattle.paper.specs.Faults.{Verdict, sound, fault, ◌or_else◌, single, outside, fault4, fault27, fault6, fault7, fault28}
-use Rattle.mesh.proofs.Ranges.{or_left, or_right, or_none}
+use Rattle.paper.specs.Faults.{Verdict, sound, fault, ◌or_else◌, Told, stated, single, lowest_of, outside, fault4, fault27, fault6, fault28}
+use Rattle.mesh.proofs.ByCases.{by_less}
+use Rattle.mesh.proofs.Ranges.{or_left, or_right, or_none, outside_low, outside_high}
 use Rattle.mesh.proofs.Accepted.{in_list}
-use Rattle.mesh.proofs.Verdicts.{single_hit, single_miss}
+use Rattle.mesh.proofs.Verdicts.{or_else_fault, single_hit, single_miss, lowest_hit, lowest_none}
+use Rattle.paper.specs.declared.Refusal.{Refusal}
+use Rattle.std.specs.Result.{IsErrAnd}
+use Rattle.std.proofs.lemmas.Result.{err_from_is_err_and}
+use Rattle.list_checks.specs.Entries.{at_found}
+use Rattle.std.specs.Prelude.{Option, Some, None}
+use Rattle.std.specs.List.{sum_by, position, position_or_len}
+use Rattle.std.proofs.lemmas.List.Recursion.{is_sum_by}
+use Rattle.std.proofs.lemmas.List.Sums.{fails_before_first, passes_at_first}
+use native.Mathlib.Omega.{arith}
+
+-- a number that is not in a range
+pub out_of : (low high n : ℕ) → (low ≤ n → n ≤ high → ⊥) → outside low high n ≡ true
+out_of low high n h =
+    by_less n low (outside_low low high n) (λ a. by_less high n (outside_high low high n) (λ b. absurd (h a b)))
 
 -- the lengths
 module _ (n f c : ℕ) where
@@ -51,10 +61,6 @@ module _ (n corners : ℕ) where
   pairs_fit h = sym (single_miss 27 n (ap not (eq-eqb n (2 * corners) h)))
 
 module _ (sharpness : List ℕ) (i : ℕ) (h : i < length sharpness) where
-  pub too_sharp : most_sharpness < get_or sharpness i 0 → fault28 sharpness i ≡ true
-  unfolding fault28
-  too_sharp l = rw (in_list sharpness i plain 0 h) (lt-ltb most_sharpness (get_or sharpness i 0) l)
-
   pub not_too_sharp : get_or sharpness i 0 ≤ most_sharpness → fault28 sharpness i ≡ false
   unfolding fault28
   not_too_sharp l = rw (in_list sharpness i plain 0 h) (le-ltb most_sharpness (get_or sharpness i 0) l)
@@ -69,24 +75,27 @@ module _ (sides : List ℕ) (count total : ℕ) (e : total ≡ sum_of sides) whe
   unfolding fault6
   sum_fits q = sym (single_miss 6 (sum_of sides) (ap not (eq-eqb (sum_of sides) count (sym e ∙ q))))
 
--- a coordinate as the code tests it, by its bits
-module _ (coordinates : List ℤ) (i : ℕ) (f : mag (get_or coordinates i (pos 0)) < 2 ^ 31) where
-  bits : to_z w32 (of_z w32 (get_or coordinates i (pos 0))) ≡ get_or coordinates i (pos 0)
-  bits = to_z-of_z w32 (get_or coordinates i (pos 0)) (record { sfits = f })
+pub summed : (sides : List ℕ) → sum_of sides ≡ sum_by (λ s. s) sides
+unfolding sum_of
+summed sides = is_sum_by sum_of (λ s. s) refl (λ x xs. refl) sides
 
-  pub below : lt_z (to_z w32 (of_z w32 (get_or coordinates i (pos 0)))) (negsuc 65535) ≡ true → fault7 coordinates i ≡ true
-  unfolding fault7
-  below h = or_left _ _ (rw bits at h)
+-- ---- the exit of a `?`: the refusal goes on as it is; it is that of the chain whose next check it states
+pub handed : {A : Type 0} {v : Verdict} (b : Told A) (r : Refusal) → IsErrAnd b (λ e. e ≡ r) → fault r.number r.place ≡ v → stated b ≡ v
+handed b r e q = let p = err_from_is_err_and b e in rw (p.1, p.2) q
 
-  pub above : lt_z (pos most_coordinate) (to_z w32 (of_z w32 (get_or coordinates i (pos 0)))) ≡ true → fault7 coordinates i ≡ true
-  unfolding fault7
-  above h = or_right (lt_z (get_or coordinates i (pos 0)) (negsuc 65535)) _ (rw bits at h)
+pub stops : {v : Verdict} (k p : ℕ) (rest : Verdict) → fault k p ≡ v → fault k p ≡ v or_else rest
+stops k p rest e = sym (or_else_fault k p rest (sym e))
 
-  pub between : lt_z (to_z w32 (of_z w32 (get_or coordinates i (pos 0)))) (negsuc 65535) ≡ false
-      → lt_z (pos most_coordinate) (to_z w32 (of_z w32 (get_or coordinates i (pos 0)))) ≡ false → fault7 coordinates i ≡ false
-  unfolding fault7
-  between g h = or_none _ _ (rw bits at g) (rw bits at h)
+-- what a search answers, by whether it found a place
+placed : (k at : ℕ) (b : Bool) {v : Verdict} → (b ≡ true → v ≡ fault k at) → (b ≡ false → v ≡ sound) → at_found k (cond b (Some at) None) ≡ v
+placed k at true hit miss = sym (hit refl)
+placed k at false hit miss = sym (miss refl)
 
--- two checks, one after the other
-pub joined : {a b v w : Verdict} → a ≡ v → b ≡ w → a or_else b ≡ v or_else w
-joined {a = a} {w = w} e f = ap (λ (x : Verdict). a or_else x) f ∙ ap (λ (x : Verdict). x or_else w) e
+-- the fault where a search over a list stops is that of the lowest place where its test holds
+pub lowest_found : {X : Type 0} (k : ℕ) (test : X → Bool) (xs : List X) (d : X) (r : Option ℕ) → r ≡ position test xs → at_found k r ≡ lowest_of k (length xs) (λ i. test (get_or xs i d))
+lowest_found k test xs d r e =
+    let at = position_or_len test xs in
+    let before : (j : ℕ) → j < at → test (get_or xs j d) ≡ false = λ j h. fails_before_first test xs j d h in
+    rw e (placed k at (ltb at (length xs))
+    (λ h. lowest_hit k (length xs) _ at (ltb-true _ _ h) (passes_at_first test xs d (ltb-true _ _ h)) before)
+    (λ h. lowest_none k (length xs) _ (λ j l. before j (omega (arith, ltb-false _ _ h)))))

@@ -1,6 +1,7 @@
 #![tactic(auto)]
 // The C face of the library, which crate mahunopi_c exports and include/mahunopi.h declares. Each function
-// wraps one of Rattle's and says the same: 0 for done, else 01's number, with the place behind `place`.
+// wraps one of Rattle's and says the same: 0 for done, else 01's number, with the place behind `place`. The C interface lends
+// every list by itself.
 ghost use Rattle.std.specs.Prelude.{◌≡◌, ◌||◌, ◌+◌, ltb, length};
 ghost use Rattle.paper.specs.Mesh.{mesh_of, four, most_sides};
 ghost use Rattle.paper.specs.File.{file_of};
@@ -15,7 +16,7 @@ ghost use Rattle.paper.specs.CFace.{FloatsAllCall, TangentsAtCall, TangentsCall}
 ghost use Rattle.paper.specs.Report.{offered};
 ghost use Rattle.paper.specs.CFace.{ReportCall, MergeCall};
 
-use paper::{Answer, FloatPoint, Irregular, Move, NO_ROOM, NUMBERS, NUMBERS_ON_PAGE};
+use paper::{FloatPoint, Irregular, MeshLists, Move, NO_ROOM, NUMBERS, NUMBERS_ON_PAGE, Refusal};
 use telling::{tell, tell_counts};
 
 // Linking.
@@ -29,8 +30,18 @@ pub fn mahunopi_link(
 ) -> u32
     ensures { LinkCall (mesh_of coordinates.now sides.now corners.now sharpness.now) links.old place.old result place.new links.new }
 {
-    let a = linking::link(coordinates, sides, corners, sharpness, links);
-    tell(a, place)
+    tell(
+        linking::link(
+            MeshLists {
+                coordinates,
+                sides,
+                corners,
+                sharpness,
+            },
+            links,
+        ),
+        place,
+    )
 }
 
 // Building.
@@ -47,17 +58,21 @@ pub fn mahunopi_build(
 ) -> u32
     ensures { BuildCall (mesh_of coordinates.now sides.now corners.now sharpness.now) links.now first count output.old place.old result place.new output.new }
 {
-    let a = building::build(
-        coordinates,
-        sides,
-        corners,
-        sharpness,
-        links,
-        first,
-        count,
-        output,
-    );
-    tell(a, place)
+    tell(
+        building::build(
+            MeshLists {
+                coordinates,
+                sides,
+                corners,
+                sharpness,
+            },
+            links,
+            first,
+            count,
+            output,
+        ),
+        place,
+    )
 }
 
 // Reading a file's lists into the beginnings of lent ones. The four lengths are left alone beside a refusal.
@@ -76,23 +91,23 @@ pub fn mahunopi_decode(
 ) -> u32
     ensures { DecodeCall (file_of bytes.now length) length (mesh_of coordinates.old sides.old corners.old sharpness.old) (four numbers.old faces.old count.old sixteenths.old) place.old result place.new (mesh_of coordinates.new sides.new corners.new sharpness.new) (four numbers.new faces.new count.new sixteenths.new) }
 {
-    let d = dms::decode(
+    match dms::decode(
         bytes,
         length as usize,
         coordinates,
         sides,
         corners,
         sharpness,
-    );
-    let a = d.answer;
-    if let Answer::Refused(number, at) = a {
-        return tell(Answer::Refused(number, at), place);
+    ) {
+        Ok(lengths) => {
+            *numbers = lengths.coordinates as u64;
+            *faces = lengths.sides as u64;
+            *count = lengths.corners as u64;
+            *sixteenths = lengths.sharpness as u64;
+            0
+        }
+        Err(refusal) => tell(Err(refusal), place),
     }
-    *numbers = d.coordinates as u64;
-    *faces = d.sides as u64;
-    *count = d.corners as u64;
-    *sixteenths = d.sharpness as u64;
-    0
 }
 
 // The counts of a file: vertices, faces and corners; and into the beginnings of two lent lists, for each m from 0 to the most sides,
@@ -109,17 +124,22 @@ pub fn mahunopi_survey(
 ) -> u32
     ensures { SurveyCall (file_of bytes.now length) length (counts_of vertices.old faces.old corners.old cornered.old sided.old) place.old result place.new (counts_of vertices.new faces.new corners.new cornered.new sided.new) }
 {
-    let s = dms::survey(bytes, length as usize);
-    let a = s.answer;
-    if let Answer::Refused(number, at) = a {
-        return tell(Answer::Refused(number, at), place);
+    match dms::survey(bytes, length as usize) {
+        Ok(counts) => {
+            if too_short(cornered.len(), sided.len()) {
+                return tell(
+                    Err(Refusal {
+                        number: NO_ROOM,
+                        place: NUMBERS,
+                    }),
+                    place,
+                );
+            }
+            tell_counts(counts, vertices, faces, corners, cornered, sided);
+            0
+        }
+        Err(refusal) => tell(Err(refusal), place),
     }
-    if too_short(cornered.len(), sided.len()) {
-        return tell(Answer::Refused(NO_ROOM, NUMBERS), place);
-    }
-    let counts = s.counts;
-    tell_counts(counts, vertices, faces, corners, cornered, sided);
-    0
 }
 
 // One control point in floats. A near point fills the first three floats, a far one all six.
@@ -132,16 +152,15 @@ pub fn mahunopi_floats(
 ) -> u32
     ensures { FloatsCall numbers.now point floats.old pairs.old place.old result place.new floats.new pairs.new }
 {
-    let a = floats::point(numbers, point);
-    match a {
-        FloatPoint::Near(p) => {
+    match floats::point(numbers, point) {
+        Ok(FloatPoint::Near(p)) => {
             floats[0] = p.x;
             floats[1] = p.y;
             floats[2] = p.z;
             *pairs = 0;
             0
         }
-        FloatPoint::Far(p, q) => {
+        Ok(FloatPoint::Far(p, q)) => {
             floats[0] = p.x;
             floats[1] = p.y;
             floats[2] = p.z;
@@ -151,7 +170,7 @@ pub fn mahunopi_floats(
             *pairs = 1;
             0
         }
-        FloatPoint::Refused(number, at) => { tell(Answer::Refused(number, at), place) }
+        Err(refusal) => tell(Err(refusal), place),
     }
 }
 
@@ -159,16 +178,14 @@ pub fn mahunopi_floats(
 pub fn mahunopi_floats_all(numbers: &[i32], floats: &mut [f32], place: &mut u64) -> u32
     ensures { FloatsAllCall numbers.now floats.old place.old result place.new floats.new }
 {
-    let a = floats::all_points(numbers, floats);
-    tell(a, place)
+    tell(floats::all_points(numbers, floats), place)
 }
 
 // Listing nested grids.
 pub fn mahunopi_nest(holders: &[u16], listing: &mut [u16], place: &mut u64) -> u32
     ensures { NestCall holders.now listing.old place.old result place.new listing.new }
 {
-    let a = nesting::nest(holders, listing);
-    tell(a, place)
+    tell(nesting::nest(holders, listing), place)
 }
 
 // The lowest face that has not four sides, else the lowest vertex that has not four corners, else none.
@@ -184,27 +201,26 @@ pub fn mahunopi_irregular(
 ) -> u32
     ensures { IrregularCall (mesh_of coordinates.now sides.now corners.now sharpness.now) (finding kind.old number.old read.old) place.old result place.new (finding kind.new number.new read.new) }
 {
-    let a = irregular::search(coordinates, sides, corners, sharpness);
-    match a {
-        Irregular::Face(f, n) => {
-            *kind = 1;
-            *number = f as u64;
-            *read = n as u64;
+    match irregular::search(MeshLists {
+        coordinates,
+        sides,
+        corners,
+        sharpness,
+    }) {
+        Ok(search) => {
+            let (code, lowest) = match search.found {
+                Some(found) => match found {
+                    Irregular::Face(f) => (1, f),
+                    Irregular::Vertex(u) => (2, u),
+                },
+                None => (0, 0),
+            };
+            *kind = code;
+            *number = lowest as u64;
+            *read = search.read as u64;
             0
         }
-        Irregular::Vertex(u, n) => {
-            *kind = 2;
-            *number = u as u64;
-            *read = n as u64;
-            0
-        }
-        Irregular::None(n) => {
-            *kind = 0;
-            *number = 0;
-            *read = n as u64;
-            0
-        }
-        Irregular::Refused(k, at) => { tell(Answer::Refused(k, at), place) }
+        Err(refusal) => tell(Err(refusal), place),
     }
 }
 
@@ -212,16 +228,14 @@ pub fn mahunopi_irregular(
 pub fn mahunopi_archive(numbers: &[i32], bytes: &mut [u8], place: &mut u64) -> u32
     ensures { ArchiveCall numbers.now bytes.old place.old result place.new bytes.new }
 {
-    let a = rearrange::archive(numbers, bytes);
-    tell(a, place)
+    tell(rearrange::archive(numbers, bytes), place)
 }
 
 // And back.
 pub fn mahunopi_restore(bytes: &[u8], numbers: &mut [i32], place: &mut u64) -> u32
     ensures { RestoreCall bytes.now numbers.old place.old result place.new numbers.new }
 {
-    let a = rearrange::restore(bytes, numbers);
-    tell(a, place)
+    tell(rearrange::restore(bytes, numbers), place)
 }
 
 // Reading an OFF text's lists into the beginnings of lent ones. The four lengths are left alone beside a refusal.
@@ -239,16 +253,16 @@ pub fn mahunopi_off(
 ) -> u32
     ensures { OffCall text.now (mesh_of coordinates.old sides.old corners.old sharpness.old) (four numbers.old faces.old count.old sixteenths.old) place.old result place.new (mesh_of coordinates.new sides.new corners.new sharpness.new) (four numbers.new faces.new count.new sixteenths.new) }
 {
-    let d = off::read(text, coordinates, sides, corners, sharpness);
-    let a = d.answer;
-    if let Answer::Refused(number, at) = a {
-        return tell(Answer::Refused(number, at), place);
+    match off::read(text, coordinates, sides, corners, sharpness) {
+        Ok(lengths) => {
+            *numbers = lengths.coordinates as u64;
+            *faces = lengths.sides as u64;
+            *count = lengths.corners as u64;
+            *sixteenths = lengths.sharpness as u64;
+            0
+        }
+        Err(refusal) => tell(Err(refusal), place),
     }
-    *numbers = d.coordinates as u64;
-    *faces = d.sides as u64;
-    *count = d.corners as u64;
-    *sixteenths = d.sharpness as u64;
-    0
 }
 
 // Trying a vertex before moving it: what building answers and writes with the vertex moved.
@@ -269,24 +283,23 @@ pub fn mahunopi_preview(
 ) -> u32
     ensures { PreviewCall (mesh_of coordinates.now sides.now corners.now sharpness.now) (move_of vertex x y z) links.now first count output.old place.old result place.new output.new }
 {
-    let to = Move {
-        vertex: vertex,
-        x: x,
-        y: y,
-        z: z,
-    };
-    let a = preview::preview(
-        coordinates,
-        sides,
-        corners,
-        sharpness,
-        links,
-        to,
-        first,
-        count,
-        output,
-    );
-    tell(a, place)
+    let to = Move { vertex, x, y, z };
+    tell(
+        preview::preview(
+            MeshLists {
+                coordinates,
+                sides,
+                corners,
+                sharpness,
+            },
+            links,
+            to,
+            first,
+            count,
+            output,
+        ),
+        place,
+    )
 }
 
 // The corners that a vertex can change: 1 in the mark of each, 0 in the others.
@@ -301,8 +314,19 @@ pub fn mahunopi_touched(
 ) -> u32
     ensures { TouchedCall (mesh_of coordinates.now sides.now corners.now sharpness.now) vertex marks.old place.old result place.new marks.new }
 {
-    let a = touching::touched(coordinates, sides, corners, sharpness, vertex, marks);
-    tell(a, place)
+    tell(
+        touching::touched(
+            MeshLists {
+                coordinates,
+                sides,
+                corners,
+                sharpness,
+            },
+            vertex,
+            marks,
+        ),
+        place,
+    )
 }
 
 // One sample of a triangle.
@@ -318,8 +342,7 @@ pub fn mahunopi_sample(
 ) -> u32
     ensures { SampleCall numbers.now side (weights i j k n) point.old place.old result place.new point.new }
 {
-    let a = sampling::sample(numbers, side, i, j, k, n, point);
-    tell(a, place)
+    tell(sampling::sample(numbers, side, i, j, k, n, point), place)
 }
 
 // All samples of a triangle, into the beginning of a lent list.
@@ -332,8 +355,7 @@ pub fn mahunopi_sample_triangle(
 ) -> u32
     ensures { TriangleCall numbers.now side n points.old place.old result place.new points.new }
 {
-    let a = sampling::sample_triangle(numbers, side, n, points);
-    tell(a, place)
+    tell(sampling::sample_triangle(numbers, side, n, points), place)
 }
 
 // How many numbers of points and of triangles a range of corners has. Both counts are left alone beside a refusal.
@@ -352,23 +374,25 @@ pub fn mahunopi_count_triangles(
 ) -> u32
     ensures { CountTrianglesCall (mesh_of coordinates.now sides.now corners.now sharpness.now) links.now levels.now first count (sizes numbers.old entries.old) place.old result place.new (sizes numbers.new entries.new) }
 {
-    let t = triangles::count(
-        coordinates,
-        sides,
-        corners,
-        sharpness,
+    match triangles::count(
+        MeshLists {
+            coordinates,
+            sides,
+            corners,
+            sharpness,
+        },
         links,
         levels,
         first,
         count,
-    );
-    let a = t.answer;
-    if let Answer::Refused(number, at) = a {
-        return tell(Answer::Refused(number, at), place);
+    ) {
+        Ok(written) => {
+            *numbers = written.points as u64;
+            *entries = written.triangles as u64;
+            0
+        }
+        Err(refusal) => tell(Err(refusal), place),
     }
-    *numbers = t.points as u64;
-    *entries = t.triangles as u64;
-    0
 }
 
 // The points and the triangles of a range of corners, into the beginnings of two lent lists. Both counts are left alone beside a refusal.
@@ -389,25 +413,27 @@ pub fn mahunopi_triangles(
 ) -> u32
     ensures { TrianglesCall (mesh_of coordinates.now sides.now corners.now sharpness.now) links.now levels.now first count points.old indices.old (sizes numbers.old entries.old) place.old result place.new points.new indices.new (sizes numbers.new entries.new) }
 {
-    let t = triangles::triangles(
-        coordinates,
-        sides,
-        corners,
-        sharpness,
+    match triangles::triangles(
+        MeshLists {
+            coordinates,
+            sides,
+            corners,
+            sharpness,
+        },
         links,
         levels,
         first,
         count,
         points,
         indices,
-    );
-    let a = t.answer;
-    if let Answer::Refused(number, at) = a {
-        return tell(Answer::Refused(number, at), place);
+    ) {
+        Ok(written) => {
+            *numbers = written.points as u64;
+            *entries = written.triangles as u64;
+            0
+        }
+        Err(refusal) => tell(Err(refusal), place),
     }
-    *numbers = t.points as u64;
-    *entries = t.triangles as u64;
-    0
 }
 
 // The tangents of the points of a range of corners, into the beginning of a lent list. The length is left alone beside a refusal.
@@ -426,23 +452,25 @@ pub fn mahunopi_tangents(
 ) -> u32
     ensures { TangentsCall (mesh_of coordinates.now sides.now corners.now sharpness.now) links.now levels.now first count tangents.old numbers.old place.old result place.new tangents.new numbers.new }
 {
-    let t = triangles::tangents(
-        coordinates,
-        sides,
-        corners,
-        sharpness,
+    match triangles::tangents(
+        MeshLists {
+            coordinates,
+            sides,
+            corners,
+            sharpness,
+        },
         links,
         levels,
         first,
         count,
         tangents,
-    );
-    let a = t.answer;
-    if let Answer::Refused(number, at) = a {
-        return tell(Answer::Refused(number, at), place);
+    ) {
+        Ok(written) => {
+            *numbers = written as u64;
+            0
+        }
+        Err(refusal) => tell(Err(refusal), place),
     }
-    *numbers = t.numbers as u64;
-    0
 }
 
 // The tangents at one sample of a triangle.
@@ -458,8 +486,10 @@ pub fn mahunopi_tangents_at(
 ) -> u32
     ensures { TangentsAtCall numbers.now side (weights i j k n) tangents.old place.old result place.new tangents.new }
 {
-    let a = sampling::tangents(numbers, side, i, j, k, n, tangents);
-    tell(a, place)
+    tell(
+        sampling::tangents(numbers, side, i, j, k, n, tangents),
+        place,
+    )
 }
 
 // Turning faces that are drawn the wrong way round.
@@ -474,13 +504,13 @@ pub fn mahunopi_turn(
 ) -> u32
     ensures { TurnCall (mesh_of coordinates.now sides.now corners.old sharpness.old) listing.old turned.old place.old result place.new (mesh_of coordinates.now sides.now corners.new sharpness.new) listing.new turned.new }
 {
-    let t = turning::turn(coordinates, sides, corners, sharpness, listing);
-    let a = t.answer;
-    if let Answer::Refused(number, at) = a {
-        return tell(Answer::Refused(number, at), place);
+    match turning::turn(coordinates, sides, corners, sharpness, listing) {
+        Ok(count) => {
+            *turned = count as u64;
+            0
+        }
+        Err(refusal) => tell(Err(refusal), place),
     }
-    *turned = t.turned as u64;
-    0
 }
 
 // One file more on the page of a border report, which is left alone beside a refusal.
@@ -492,15 +522,13 @@ pub fn mahunopi_report(
 ) -> u32
     ensures { ReportCall (offered bytes.now length) page.old place.old result place.new page.new }
 {
-    let before = page_numbers::read(page);
-    let reported = border_report::report(bytes, length as usize, before);
-    let a = reported.answer;
-    if let Answer::Refused(number, at) = a {
-        return tell(Answer::Refused(number, at), place);
+    match border_report::report(bytes, length as usize, page_numbers::read(page)) {
+        Ok(after) => {
+            *page = page_numbers::numbers(after);
+            0
+        }
+        Err(refusal) => tell(Err(refusal), place),
     }
-    let after = reported.page;
-    *page = page_numbers::numbers(after);
-    0
 }
 
 // Two pages as one, in the second, which is left alone beside a refusal.
@@ -511,25 +539,18 @@ pub fn mahunopi_merge(
 ) -> u32
     ensures { MergeCall other.now page.old place.old result place.new page.new }
 {
-    let before = page_numbers::read(page);
-    let more = page_numbers::read(other);
-    let reported = pages::merge(before, more);
-    let a = reported.answer;
-    if let Answer::Refused(number, at) = a {
-        return tell(Answer::Refused(number, at), place);
+    match pages::merge(page_numbers::read(page), page_numbers::read(other)) {
+        Ok(after) => {
+            *page = page_numbers::numbers(after);
+            0
+        }
+        Err(refusal) => tell(Err(refusal), place),
     }
-    let after = reported.page;
-    *page = page_numbers::numbers(after);
-    0
 }
 
 // Whether one of two lists has no room for every m.
 fn too_short(cornered: usize, sided: usize) -> bool
     ensures { result ≡ (ltb cornered (most_sides + 1) || ltb sided (most_sides + 1)) }
 {
-    if cornered < NUMBERS {
-        true
-    } else {
-        sided < NUMBERS
-    }
+    cornered < NUMBERS || sided < NUMBERS
 }

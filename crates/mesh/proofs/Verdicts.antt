@@ -1,12 +1,12 @@
 -- Steps of a chain of checks: what a verdict says of its checks, and how the answer of one check joins the chain.
 use mathlib.Core.Path.{◌≡◌, refl, ap, ◌∙◌, sym}
+use Rattle.std.specs.Prelude.{Ok, Err}
 use mathlib.Core.Bool.{Bool, true, false}
 use Prim.Native.Nat.{ℕ, ◌<◌}
 use native.Mathlib.Omega.{arith}
 use Rattle.paper.specs.Scan.{first_below, some_below}
-use Rattle.paper.specs.Faults.{Verdict, sound, fault, ◌or_else◌, single, lowest_of, stated}
-use Rattle.paper.specs.declared.Answer.{Answer}
-use Rattle.paper.specs.declared.Answer.TheVariants.{Done, Refused}
+use Rattle.paper.specs.Faults.{Verdict, sound, fault, ◌or_else◌, single, lowest_of, stated, Told}
+use Rattle.paper.specs.declared.Refusal.{Refusal}
 use Rattle.mesh.proofs.Scans.{first_at, some_true, some_false, none}
 
 pub sound_left : (v w : Verdict) → v or_else w ≡ sound → v ≡ sound
@@ -63,12 +63,16 @@ pub lowest_none : (k n : ℕ) (f : ℕ → Bool) → ((j : ℕ) → j < n → f 
 unfolding lowest_of
 lowest_none k n f h = single_miss k (first_below n f) (some_false n f h)
 
--- a check whose answer states a verdict, as code meets it: it stops the chain, or is passed
-pub stop : {v : Verdict} (a : Answer) → stated a ≡ v → (k p : ℕ) → a ≡ Refused k p → (rest : Verdict) → fault k p ≡ v or_else rest
-stop a e k p q rest = sym (or_else_fault k p rest (sym e ∙ ap stated q))
+-- a call that answers a refusal under a number at a place
+abbrev pub refusing : {A : Type 0} → ℕ → ℕ → Told A
+refusing k p = Err (record { number = k; place = p })
 
-pub passed : {v : Verdict} (a : Answer) → stated a ≡ v → a ≡ Done → v ≡ sound
-passed a e q = sym e ∙ ap stated q
+-- a check whose answer states a verdict, as code meets it: it stops the chain, or is passed
+pub stop : {A : Type 0} {v : Verdict} (a : Told A) → stated a ≡ v → (r : Refusal) → a ≡ Err r → (rest : Verdict) → fault r.number r.place ≡ v or_else rest
+stop a e r q rest = sym (or_else_fault r.number r.place rest (sym e ∙ ap stated q))
+
+pub passed : {A : Type 0} {v : Verdict} (a : Told A) → stated a ≡ v → (x : A) → a ≡ Ok x → v ≡ sound
+passed a e x q = sym e ∙ ap stated q
 
 pub past : {v : Verdict} → v ≡ sound → {w : Verdict} (rest : Verdict) → w ≡ rest → w ≡ v or_else rest
 past e rest r = r ∙ sym (or_else_sound rest e)

@@ -5,8 +5,7 @@
 ghost use Rattle.std.specs.Prelude.{◌≤◌, ◌<◌, length};
 
 use lines::put_ended;
-use mesh::{least, wide};
-use paper::{Answer, MOST_BODIES, SUN};
+use paper::{MOST_BODIES, Refusal, SUN};
 use streams::output::{complain, complain_up_to, say_up_to};
 use streams::text::{put_number, put_word};
 
@@ -19,18 +18,9 @@ const BUFFER: usize = 4096;
 // Room for all that is printed. The picture is longest where each body hangs in the one before: the last of 256 is then 512 spaces in.
 const LINES_ROOM: usize = 69632;
 
-// What a line says; and what a text does: how many bodies it has, or the number, from 1, of the first line that is neither.
-#[derive(Drop)]
-enum TableLine {
-    Holder(u16),
-    Neither,
-}
-
-#[derive(Drop)]
-enum Table {
-    Bodies(usize),
-    BadLine(usize),
-}
+// The number, from 1, of the first line that is neither a body's number nor the Sun.
+#[derive(Clone, Copy)]
+struct BadLine(usize);
 
 fn main(rt: HostRuntime) {
     if 1 < streams::arguments::count(rt) {
@@ -38,9 +28,12 @@ fn main(rt: HostRuntime) {
         return;
     }
     let mut bytes = [0u8; BUFFER];
-    let read = streams::input::read_up_to(rt, &mut rt.stdin(), b"standard input", &mut bytes);
-    let held = read.count;
-    if read.ok {
+    if let Ok(held) = streams::input::read_up_to(
+        rt,
+        &mut rt.stdin(),
+        b"standard input",
+        &mut bytes,
+    ) {
         print_text(rt, &bytes[..held]);
     }
 }
@@ -48,86 +41,47 @@ fn main(rt: HostRuntime) {
 // Reads the table, and prints it.
 fn print_text(rt: HostRuntime, text: &[u8]) {
     let mut holders = [0u16; ROOM];
-    let t = read_table(text, &mut holders);
-    match t {
-        Table::BadLine(line) => complain_line(rt, line),
-        Table::Bodies(count) => {
-            let n = least(count, ROOM);
+    match read_table(text, &mut holders) {
+        Ok(count) => {
+            let n = count.min(ROOM);
             print_table(rt, &holders[..n]);
         }
+        Err(BadLine(line)) => complain_line(rt, line),
     }
 }
 
-// Reads a table's lines, as many as there is room for.
-fn read_table(text: &[u8], holders: &mut [u16]) -> Table {
-    let mut count = 0;
-    let mut at = 0;
-    while count < holders.len() {
-        if text.len() <= at {
-            return Table::Bodies(count);
-        }
-        let end = line_end(text, at);
-        let line = read_line(&text[at..end]);
-        let TableLine::Holder(h) = line else {
-            return Table::BadLine(count + 1);
+// Reads a table's lines, as many as there is room for; answers how many bodies it has.
+fn read_table(text: &[u8], holders: &mut [u16]) -> Result<usize, BadLine> {
+    let mut lines = text.split_inclusive(|byte| *byte == b'\n');
+    for (k, holder) in holders.iter_mut().enumerate() {
+        let Some(line) = lines.next() else {
+            return Ok(k);
         };
-        holders[count] = h;
-        count += 1;
-        at = if end < text.len() { end + 1 } else { end };
+        let line = line.strip_suffix(b"\n").unwrap_or(line);
+        *holder = read_line(line).ok_or(BadLine(k + 1))?;
     }
-    Table::Bodies(count)
-}
-
-// Where the line that starts at `at` ends: at its line feed, or at the end of the text.
-fn line_end(text: &[u8], at: usize) -> usize
-    requires { at ≤ length text.now }
-    ensures { (at ≤ result) × (result ≤ length text.now) }
-{
-    let mut end = at;
-    while end < text.len() {
-        if text[end] == b'\n' {
-            return end;
-        }
-        end += 1;
-    }
-    end
+    Ok(holders.len())
 }
 
 // The holder that a line names: `sun`, or a number of at most nine digits.
-fn read_line(line: &[u8]) -> TableLine {
-    if line.len() == 3 && line[0] == b's' && line[1] == b'u' && line[2] == b'n' {
-        return TableLine::Holder(SUN);
+fn read_line(line: &[u8]) -> Option<u16> {
+    if line == b"sun".as_slice() {
+        return Some(SUN);
     }
-    if line.len() == 0 || 9 < line.len() {
-        return TableLine::Neither;
+    if line.is_empty() || 9 < line.len() {
+        return None;
     }
     read_digits(line)
 }
 
 // The number that these digits make. One above 65,535 is given as 65,534, which is no body's number either.
-fn read_digits(line: &[u8]) -> TableLine {
-    let mut value: usize = 0;
-    let mut i = 0;
-    while i < line.len() {
-        let byte = line[i];
-        if byte < b'0' || b'9' < byte {
-            return TableLine::Neither;
-        }
-        value = appended(value, byte);
-        i += 1;
+fn read_digits(line: &[u8]) -> Option<u16> {
+    let mut value: u32 = 0;
+    for byte in line {
+        let digit = char::from(*byte).to_digit(10)?;
+        value = value.saturating_mul(10).saturating_add(digit);
     }
-    if value <= SUN as usize {
-        return TableLine::Holder(value as u16);
-    }
-    TableLine::Holder(SUN - 1)
-}
-
-// A number with one digit more; above 65,535 it stays.
-fn appended(value: usize, byte: u8) -> usize {
-    if (SUN as usize) < value || byte < b'0' {
-        return value;
-    }
-    10 * value + (byte - b'0') as usize
+    Some(u16::try_from(value).unwrap_or(SUN - 1))
 }
 
 // The line of the text that is neither.
@@ -142,18 +96,17 @@ fn complain_line(rt: HostRuntime, line: usize) {
 // Lends a listing of the table's length.
 fn print_table(rt: HostRuntime, holders: &[u16]) {
     let mut listing = [0u16; ROOM];
-    let n = least(holders.len(), ROOM);
+    let n = holders.len().min(ROOM);
     print_nested(rt, holders, &mut listing[..n]);
 }
 
 // The listing and the picture, or the refusal.
 fn print_nested(rt: HostRuntime, holders: &[u16], listing: &mut [u16]) {
-    let answer = nesting::nest(holders, listing);
-    match answer {
-        Answer::Refused(number, place) => {
+    match nesting::nest(holders, listing) {
+        Ok(()) => print_lines(rt, holders, listing),
+        Err(Refusal { number, place }) => {
             lines::say_refusal(rt, number, place);
         }
-        Answer::Done => print_lines(rt, holders, listing),
     }
 }
 
@@ -168,10 +121,8 @@ fn print_lines(rt: HostRuntime, holders: &[u16], listing: &[u16]) {
 // The bodies in their order, one a line.
 fn put_listing(lines: &mut [u8], listing: &[u16]) -> usize {
     let mut at = 0;
-    let mut i = 0;
-    while i < listing.len() {
-        at = put_ended(lines, at, wide(listing[i]) as u64, b'\n');
-        i += 1;
+    for body in listing {
+        at = put_ended(lines, at, u64::from(*body), b'\n');
     }
     at
 }
@@ -180,52 +131,42 @@ fn put_listing(lines: &mut [u8], listing: &[u16]) -> usize {
 // where there is none left, up and on to the next body beside it; so each body is entered once and left once.
 fn put_picture(lines: &mut [u8], start: usize, holders: &[u16]) -> usize {
     let mut at = put_word(lines, start, b"\nsun\n");
-    let mut holder = SUN as usize;
-    let mut from: usize = 0;
+    let mut holder = usize::from(SUN);
+    let mut from = 0;
     let mut depth: usize = 1;
-    let mut turns: usize = 0;
-    while turns < 2 * ROOM {
-        let b = next_under(holders, holder, from);
-        if b < holders.len() {
+    for _turn in 0..2 * ROOM {
+        if let Some(b) = next_under(holders, holder, from) {
             at = put_body(lines, at, b, depth);
             holder = b;
             from = 0;
             depth += 1;
         } else {
-            if holders.len() <= holder {
-                return at;
-            }
-            if depth == 0 {
+            if holders.len() <= holder || depth == 0 {
                 return at;
             }
             from = holder + 1;
-            holder = wide(holders[holder]);
+            holder = usize::from(holders[holder]);
             depth -= 1;
         }
-        turns += 1;
     }
     at
 }
 
-// The lowest body from `from` on that hangs in `holder`; the body count where there is none.
-fn next_under(holders: &[u16], holder: usize, from: usize) -> usize {
-    let mut b = from;
-    while b < holders.len() {
-        if wide(holders[b]) == holder {
-            return b;
+// The lowest body from `from` on that hangs in `holder`.
+fn next_under(holders: &[u16], holder: usize, from: usize) -> Option<usize> {
+    for (b, h) in holders.iter().enumerate().skip(from) {
+        if usize::from(*h) == holder {
+            return Some(b);
         }
-        b += 1;
     }
-    b
+    None
 }
 
 // A body's line, two spaces in for each step of its depth.
 fn put_body(lines: &mut [u8], at: usize, body: usize, depth: usize) -> usize {
     let mut to = at;
-    let mut i = 0;
-    while i < depth {
+    for _ in 0..depth {
         to = put_word(lines, to, b"  ");
-        i += 1;
     }
     put_ended(lines, to, body as u64, b'\n')
 }

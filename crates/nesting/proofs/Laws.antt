@@ -1,23 +1,21 @@
 -- What each test of the code says of the table, what the marks tell, and the turns of the loop that lists.
 use mathlib.Core.Path.{◌≡◌, refl, sym, ap, ◌∙◌, subst}
 use mathlib.Core.Bool.{Bool, true, false, not, ◌&&◌}
-use mathlib.Core.List.{List, [], ◌∷◌, ◌++◌, append-nil}
+use mathlib.Core.List.{List, [], ◌∷◌, ◌++◌}
 use Prim.Native.Nat.{ℕ, zero, suc, ◌+◌, ◌<◌, ◌≤◌}
 use native.Mathlib.Numerals.{add-one}
 use native.Mathlib.Omega.{arith}
-use lib.Dec.{leb, eqb}
+use lib.Dec.{leb}
 use lib.ListN.{length, get_or, set, take, replicate, length-replicate, get_or-eq_default}
-use lib.Seq.{take-suc-set, length-take-le, drop-length, get_or-set_same, get_or-set_other}
+use lib.Seq.{take-suc-set, get_or-set_same, get_or-set_other}
 use borrow.Author.Tests.{eqb-true, eq-eqb, ne_eqb, le-leb, lt-leb, not-false}
-use Rattle.paper.specs.Scan.{pick_n}
-use Rattle.paper.specs.File.{begins}
-use Rattle.paper.specs.Faults.{Verdict, sound, fault, ◌or_else◌, single, lowest_of, outside}
+use Rattle.std.specs.Prelude.{Err}
+use Rattle.paper.specs.declared.Refusal.{Refusal}
+use Rattle.paper.specs.Faults.{Verdict, sound, fault, ◌or_else◌, single, lowest_of, outside, Answer, done}
 use Rattle.paper.specs.Nesting.{most_bodies, sun, holder, ends_at_sun, fault21, fault22, fault23, listed, may_follow, next_body, places, listing}
 use Rattle.paper.specs.Nesting.{table_verdict, nesting_verdict, Nested}
-use Rattle.paper.specs.declared.Answer.{Answer}
-use Rattle.paper.specs.declared.Answer.TheVariants.{Done, Refused}
 use Rattle.mesh.proofs.Scans.{and_true}
-use Rattle.mesh.proofs.ByCases.{by_equal, true_of, false_of}
+use Rattle.mesh.proofs.ByCases.{by_equal}
 use Rattle.mesh.proofs.Ranges.{or_left, or_right, or_none, none_right}
 use Rattle.mesh.proofs.Verdicts.{single_sound, lowest_sound, or_else_assoc, past}
 use Rattle.nesting.specs.Marks.{Marks, ChainMarks, Arrangeable, Arranged, ListedIn}
@@ -68,87 +66,67 @@ module _ (B : List ℕ) (b : ℕ) (l : b < length B) where
       and_false true e = e
       and_false false e = refl
 
--- ---- marks: 1 where the test holds, else 0
-module _ (x : ℕ) (t : Bool) (e : x ≡ pick_n t 1 0) where
-  marked : (x ≡ 0 → ⊥) → t ≡ true
-  marked d = true_of t (λ q. d (e ∙ ap (λ (z : Bool). pick_n z 1 0) q))
-
-  unmarked : x ≡ 0 → t ≡ false
-  unmarked z = false_of t (λ q. omega (arith, e, ap (λ (z : Bool). pick_n z 1 0) q))
-
 -- 23
-module _ (B marks : List ℕ) (m : ChainMarks B marks) (b : ℕ) (l : b < length B) where
-  pub no_end : get_or marks b 0 ≡ 0 → fault23 B b ≡ true
+module _ (B : List ℕ) (marks : List Bool) (m : ChainMarks B marks) (b : ℕ) (l : b < length B) where
+  pub no_end : get_or marks b false ≡ false → fault23 B b ≡ true
   unfolding fault23 ChainMarks
-  no_end z = ap not (unmarked (get_or marks b 0) (ends_at_sun B b) (m b l) z)
+  no_end z = ap not (sym (m b l) ∙ z)
 
-  pub an_end : (get_or marks b 0 ≡ 0 → ⊥) → fault23 B b ≡ false
+  pub an_end : get_or marks b false ≡ true → fault23 B b ≡ false
   unfolding fault23 ChainMarks
-  an_end d = ap not (marked (get_or marks b 0) (ends_at_sun B b) (m b l) d)
+  an_end z = ap not (sym (m b l) ∙ z)
 
 -- what may follow, by the marks; h is what b hangs in
-module _ (B list marks : List ℕ) (m : Marks list marks) (b : ℕ) {h : ℕ} (e : holder B b ≡ h) where
-  listed_if : (x : ℕ) → (get_or marks x 0 ≡ 0 → ⊥) → listed list x ≡ true
+module _ (B list : List ℕ) (marks : List Bool) (m : Marks list marks) (b : ℕ) {h : ℕ} (e : holder B b ≡ h) where
+  listed_is : (x : ℕ) → get_or marks x false ≡ listed list x
   unfolding Marks
-  listed_if x = marked (get_or marks x 0) (listed list x) (m x)
+  listed_is x = m x
 
-  unlisted_if : (x : ℕ) → get_or marks x 0 ≡ 0 → listed list x ≡ false
-  unfolding Marks
-  unlisted_if x = unmarked (get_or marks x 0) (listed list x) (m x)
-
-  listed_is : (x : ℕ) → not (eqb (get_or marks x 0) 0) ≡ listed list x
-  listed_is x =
-      by_equal (get_or marks x 0) 0 (λ t. rw (eq-eqb _ _ t) (sym (unlisted_if x t))) (λ t. rw (ne_eqb _ _ t) (sym (listed_if x t)))
-
-  pub not_again : (get_or marks b 0 ≡ 0 → ⊥) → false ≡ may_follow B list b
+  pub not_again : get_or marks b false ≡ true → false ≡ may_follow B list b
   unfolding may_follow
-  not_again d = rw (listed_if b d)
+  not_again d = rw (sym (listed_is b) ∙ d)
 
-  module _ (z : get_or marks b 0 ≡ 0) where
+  module _ (z : get_or marks b false ≡ false) where
     pub under_sun : h ≡ sun → true ≡ may_follow B list b
     unfolding may_follow
-    under_sun s = rw (unlisted_if b z, eq-eqb (holder B b) sun (e ∙ s))
+    under_sun s = rw (sym (listed_is b) ∙ z, eq-eqb (holder B b) sun (e ∙ s))
 
-    pub under_body : (h ≡ sun → ⊥) → not (eqb (get_or marks h 0) 0) ≡ may_follow B list b
+    pub under_body : (h ≡ sun → ⊥) → get_or marks h false ≡ may_follow B list b
     unfolding may_follow
-    under_body d = rw (unlisted_if b z, ne_eqb (holder B b) sun (λ q. d (sym e ∙ q)), e) (listed_is h)
+    under_body d = rw (sym (listed_is b) ∙ z, ne_eqb (holder B b) sun (λ q. d (sym e ∙ q)), e) (listed_is h)
 
     pub under_none : (h ≡ sun → ⊥) → length marks ≤ h → false ≡ may_follow B list b
-    under_none d o = ap (λ (x : ℕ). not (eqb x 0)) (sym (get_or-eq_default marks 0 o)) ∙ under_body d
-
--- ---- copying: a listing that is no longer than the order gets its beginning
-pub copied_whole : (order old new : List ℕ) → length old ≤ length order → new ≡ begins (take (length old) order) old → new ≡ take (length old) order
-copied_whole order old new h e = rw (length-take-le (length old) order h, drop-length old, append-nil) at e
+    under_none d o = sym (get_or-eq_default marks false o) ∙ under_body d
 
 -- ---- listing: k bodies are listed and marked
-pub record Filling (B marks order : List ℕ) (k : ℕ) : Type 0 where
+pub record Filling (B : List ℕ) (marks : List Bool) (order : List ℕ) (k : ℕ) : Type 0 where
   pub run : Occupied B k
   pub marks_are : Marks (places B k) marks
   pub order_is : take k order ≡ places B k
 
-pub filling_none : (B marks order : List ℕ) → ((b : ℕ) → get_or marks b 0 ≡ 0) → Filling B marks order 0
+pub filling_none : (B : List ℕ) (marks : List Bool) (order : List ℕ) → ((b : ℕ) → get_or marks b false ≡ false) → Filling B marks order 0
 unfolding Marks
 filling_none B marks order z =
     record {
       run = λ i l. absurd (omega arith);
-      marks_are = λ b. z b ∙ sym (ap (λ (l : List ℕ). pick_n (listed l b) 1 0) (places_zero B) ∙ ap (λ (t : Bool). pick_n t 1 0) (none_listed b));
+      marks_are = λ b. z b ∙ sym (ap (λ (l : List ℕ). listed l b) (places_zero B) ∙ none_listed b);
       order_is = sym (places_zero B);
     }
 
-module _ {B marks order : List ℕ} {k : ℕ} (f : Filling B marks order k) where
+module _ {B : List ℕ} {marks : List Bool} {order : List ℕ} {k : ℕ} (f : Filling B marks order k) where
   -- body b comes next
   module _ {b : ℕ} (e : b ≡ next_body B (places B k)) (h : b < length B) (i : b < length marks) (j : k < length order) where
     longer : places B (k + 1) ≡ places B k ++ (b ∷ [])
     longer = rw add-one (places_suc B k ∙ ap (λ (x : ℕ). places B k ++ (x ∷ [])) (sym e))
 
-    mark_step : Marks (places B k ++ (b ∷ [])) (set marks b 1)
+    mark_step : Marks (places B k ++ (b ∷ [])) (set marks b true)
     unfolding Marks
     mark_step c =
         by_equal c b
-        (λ q. rw q (get_or-set_same marks b 1 0 i ∙ sym (ap (λ (z : Bool). pick_n z 1 0) (snoc_same (places B k) b))))
-        (λ q. get_or-set_other marks b c 1 0 q ∙ f.marks_are c ∙ sym (ap (λ (z : Bool). pick_n z 1 0) (snoc_other (places B k) b c q)))
+        (λ q. rw q (get_or-set_same marks b true false i ∙ sym (snoc_same (places B k) b)))
+        (λ q. get_or-set_other marks b c true false q ∙ f.marks_are c ∙ sym (snoc_other (places B k) b c q))
 
-    pub filling_step : Filling B (set marks b 1) (set order k b) (k + 1)
+    pub filling_step : Filling B (set marks b true) (set order k b) (k + 1)
     filling_step =
         record {
           run = rw add-one (run_step B k f.run (omega arith));
@@ -163,14 +141,14 @@ module _ {B marks order : List ℕ} {k : ℕ} (f : Filling B marks order k) wher
   filled few held stop =
       let d = decided B few held k f.run stop in
       record {
-        marked = λ b h. f.marks_are b ∙ ap (λ (z : Bool). pick_n z 1 0) (d b h);
+        marked = λ b h. f.marks_are b ∙ d b h;
         lists = λ ends. let q : k ≡ length B = all_filled B k f.run (λ b h. d b h ∙ ends b h) in
             subst (λ (n : ℕ). take n order ≡ places B n) q f.order_is;
       }
 
 -- ---- check 23 and the listing, way by way
-pub list_done : {B old marks order out : List ℕ} → lowest_of 23 (length B) (fault23 B) ≡ sound → length old ≡ length B → Arranged B marks order
-    → out ≡ take (length old) order → ListedIn B old Done out
+pub list_done : {B old : List ℕ} {marks : List Bool} {order out : List ℕ} → lowest_of 23 (length B) (fault23 B) ≡ sound → length old ≡ length B → Arranged B marks order
+    → out ≡ take (length old) order → ListedIn B old done out
 unfolding fault23
 list_done {B} {order = order} c q g e =
     record {
@@ -180,10 +158,10 @@ list_done {B} {order = order} c q g e =
     }
 
 -- ---- the call, way by way
-zeros : (n b : ℕ) → get_or {A = ℕ} (replicate n 0) b 0 ≡ 0
-zeros zero b = refl
-zeros (suc n) zero = refl
-zeros (suc n) (suc b) = zeros n b
+unmarked : (n b : ℕ) → get_or (replicate n false) b false ≡ false
+unmarked zero b = refl
+unmarked (suc n) zero = refl
+unmarked (suc n) (suc b) = unmarked n b
 
 module _ (B old : List ℕ) where
   abbrev v21 : Verdict
@@ -199,8 +177,8 @@ module _ (B old : List ℕ) where
   unfolding nesting_verdict table_verdict
   in_order = or_else_assoc v21 v22 v23
 
-  pub nest_refused : (k p : ℕ) → fault k p ≡ v21 or_else v22 or_else v23 → Nested B old (Refused k p) old
-  nest_refused k p e = record { answers = e ∙ sym in_order; holds = refl }
+  pub nest_refused : (x : Refusal) → fault x.number x.place ≡ v21 or_else v22 or_else v23 → Nested B old (Err x) old
+  nest_refused x e = record { answers = e ∙ sym in_order; holds = refl }
 
   module _ (a : v21 ≡ sound) where
     pub same_room : length old ≡ length B
@@ -211,14 +189,14 @@ module _ (B old : List ℕ) where
     few_bodies = few_of B (length old) (single_sound 21 _ 0 a)
 
     module _ (b : v22 ≡ sound) where
-      pub arrangeable : Arrangeable B (replicate most_bodies 0) (replicate most_bodies 0)
+      pub arrangeable : Arrangeable B (replicate most_bodies false) (replicate most_bodies 0)
       arrangeable =
           record {
             few = few_bodies;
             held = lowest_sound 22 (length B) (fault22 B) b;
-            marks_room = omega (arith, few_bodies, length-replicate {A = ℕ} most_bodies 0);
+            marks_room = omega (arith, few_bodies, length-replicate {A = Bool} most_bodies false);
             order_room = omega (arith, few_bodies, length-replicate {A = ℕ} most_bodies 0);
-            blank = zeros most_bodies;
+            blank = unmarked most_bodies;
           }
 
       pub nest_listed : {r : Answer} {out : List ℕ} → ListedIn B old r out → Nested B old r out

@@ -14,6 +14,7 @@ pub(crate) fn put_three(x: i32, y: i32, z: i32, out: &mut [i32], to: usize)
 }
 
 // The same and a fourth number: four numbers are stored in one step. In the output the next point writes over it.
+// Tried: by `copy_from_slice` building took 1.15 times as long.
 pub(crate) fn put_four(x: i32, y: i32, z: i32, w: i32, out: &mut [i32], to: usize)
     requires { to + 4 ≤ length out.old }
     ensures { PointPut x y z to 4 out.old out.new × (get_or out.new (to + 3) (pos 0) ≡ w) }
@@ -27,8 +28,7 @@ fn copy_run(lanes: &[i32], point: usize, count: usize, out: &mut [i32], at: usiz
     requires { (point + count ≤ 40) × (length lanes.now ≡ 164) × (at + per_corner ≤ length out.old) }
     ensures { PointsCopied lanes.now at point (point + count) out.old out.new }
 {
-    let mut j: usize = 0;
-    while j < count {
+    for j in 0..count {
         let p = point + j;
         let from = 4 * p;
         let x = lanes[from];
@@ -36,7 +36,6 @@ fn copy_run(lanes: &[i32], point: usize, count: usize, out: &mut [i32], at: usiz
         let z = lanes[from + 2];
         let w = lanes[from + 3];
         put_four(x, y, z, w, out, at + 3 * p);
-        j += 1;
     }
 }
 
@@ -45,10 +44,8 @@ pub(crate) fn copy(lanes: &[i32], out: &mut [i32], at: usize)
     requires { (length lanes.now ≡ 164) × (at + per_corner ≤ length out.old) }
     ensures { PointsCopied lanes.now at 0 41 out.old out.new }
 {
-    let mut i: usize = 0;
-    while i < 5 {
+    for i in 0..5 {
         copy_run(lanes, 8 * i, 8, out, at);
-        i += 1;
     }
     let x = lanes[160];
     let y = lanes[161];

@@ -43,10 +43,8 @@ pub(crate) fn fill_lanes(stencil: &[i32], rings: Rings, lanes: &mut [i32])
     requires { ((k : ℕ) → k < 4 → LaneReady stencil.now k rings) × (length lanes.old ≡ 164) }
     ensures { (k : ℕ) → k < 4 → LaneFilled stencil.now k rings lanes.new }
 {
-    let mut k: usize = 0;
-    while k < 4 {
+    for k in 0..4 {
         let four = lane_sides(stencil, k, rings);
         net_rows::points::put_lane(four, lanes, k);
-        k += 1;
     }
 }

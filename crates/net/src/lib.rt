@@ -45,12 +45,10 @@ pub fn put_run(
     ensures quiet { Quiet stencil.new }
 {
     crate::stencil::take_face(points, table, rows, count, c, run, stencil);
-    let mut r = 0;
-    while r < run {
+    for r in 0..run {
         crate::stencil::take_corner(points, table, rows, count, c + r, stencil);
         crate::lanes::fill_lanes(stencil, rings_at(table, rows, count, c + r, r), lanes);
         crate::copy::copy(lanes, out, at + NUMBERS_PER_CORNER * r);
-        r += 1;
     }
 }
 

@@ -68,8 +68,7 @@ fn take_quad(points: &[i32], table: &[u16], count: usize, c: usize, run: usize, 
     let mut far = next.next(table);
     let centre = faces::four_centre(points, c, next.corner, far.corner, before.corner);
     take_row(centre, stencil, FACE);
-    let mut r = 0;
-    while r <= run {
+    for r in 0..run + 1 {
         let p = faces::four_toward(points, before.corner, here.corner, next.corner, far.corner);
         take_row(p, stencil, FACE + 1 + r);
         let first = before;
@@ -77,7 +76,6 @@ fn take_quad(points: &[i32], table: &[u16], count: usize, c: usize, run: usize, 
         here = next;
         next = far;
         far = first;
-        r += 1;
     }
 }
 
@@ -101,12 +99,10 @@ fn take_ring(
     take_row(centre, stencil, FACE);
     let here = Walker { corner: c };
     let mut at = here.previous(table);
-    let mut r = 0;
-    while r <= run {
+    for r in 0..run + 1 {
         let p = faces::ring_toward(points, table, NEXT, rows, at.corner, n, f);
         take_row(p, stencil, FACE + 1 + r);
         at = at.next(table);
-        r += 1;
     }
 }
 
@@ -190,10 +186,8 @@ pub fn take_corner(
     take_vertex(
         points, table, rows, count, c, corners[4], corners[3], stencil,
     );
-    let mut i: usize = 0;
-    while i < AROUND {
+    for i in 0..AROUND {
         take_whole(points, corners[i], stencil, i);
-        i += 1;
     }
 }
 

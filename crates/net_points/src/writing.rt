@@ -5,7 +5,7 @@ ghost use Rattle.paper.specs.Faults.{sound};
 ghost use Rattle.paper.specs.Floats.{net_verdict};
 ghost use Rattle.bernstein.specs.Sums.{AllSized, row_of, polynomial_of};
 ghost use Rattle.sampling.specs.Grid.{Sampleable, RowPut};
-ghost use Rattle.net_points.specs.writing.Laid.{Reaches, reversed_of, InTurn, PointPlace, EndAim, EndPlace, CurveAim, CurvePlace, SpokeAim, SpokePlace, RingsAim, RingsPlace};
+ghost use Rattle.net_points.specs.writing.Laid.{Reaches, reversed_of, InTurn, EndAim, EndPlace, CurveAim, CurvePlace, SpokeAim, SpokePlace, RingsAim, RingsPlace};
 ghost use Rattle.net_points.specs.writing.Shapes.{Shapely, shape_size, ShapeAim, ShapePlace};
 
 use bernstein::{Matrix5, Vector5};
@@ -59,21 +59,8 @@ fn put_end(numbers: &[i32], point: usize, own: usize, points: &mut [i32], at: us
     ensures { (f : ℕ → ℤ) → EndAim numbers.now point own at f → Reaches f (EndPlace own at) points.old points.new }
 {
     if own == 1 {
-        let x = numbers[3 * point];
-        let y = numbers[3 * point + 1];
-        let z = numbers[3 * point + 2];
-        put_point(points, at, x, y, z);
+        points[at..at + 3].copy_from_slice(&numbers[3 * point..3 * point + 3]);
     }
-}
-
-// x, y and z.
-fn put_point(points: &mut [i32], at: usize, x: i32, y: i32, z: i32)
-    requires { at + 3 ≤ length points.old }
-    ensures { (f : ℕ → ℤ) → f at ≡ x → f (at + 1) ≡ y → f (at + 2) ≡ z → Reaches f (PointPlace at) points.old points.new }
-{
-    points[at] = x;
-    points[at + 1] = y;
-    points[at + 2] = z;
 }
 
 // Each row from its other end.
@@ -162,12 +149,10 @@ fn put_rings(numbers: &[i32], n: usize, points: &mut [i32], at: usize)
     requires { (net_verdict numbers.now ≡ sound) × (1 ≤ n) × (n ≤ 16) × (at + 6 * (n * (n - 1)) ≤ length points.old) }
     ensures { (f : ℕ → ℤ) → RingsAim numbers.now n at f → Reaches f (RingsPlace n at 4) points.old points.new }
 {
-    let mut side = 0;
-    while side < 4 {
+    for side in 0..4 {
         put_spokes(turn_points(numbers, side, 0), side, n, points, at);
         put_spokes(turn_points(numbers, side, 1), side, n, points, at + 1);
         put_spokes(turn_points(numbers, side, 2), side, n, points, at + 2);
-        side += 1;
     }
 }
 
@@ -177,13 +162,11 @@ fn put_spokes(p: Matrix5, side: usize, n: usize, points: &mut [i32], at: usize)
     ensures { (f : ℕ → ℤ) → SpokeAim p side n at f → Reaches f (SpokePlace side n at n) points.old points.new }
 {
     let mut s = bernstein::start(p, n);
-    let mut k = 0;
-    while k + 1 < n {
+    for k in 0..n - 1 {
         s = bernstein::next(s);
         let w = n - k - 1;
         let e = bernstein::row(s);
         let ring = strips::rings_before(n, k);
         sampling::put_row(e, n, 0, w, points, at + 3 * (ring + side * w));
-        k += 1;
     }
 }

@@ -10,37 +10,19 @@ fn put_row(row: &[i32], out: &mut [i32], from: usize)
     requires { from + 4 * length row.now ≤ length out.old + 3 }
     ensures { PointsPlaced out.old out.new from row.now }
 {
-    let mut j: usize = 0;
-    while j < row.len() {
-        let v = row[j];
-        out[from + 4 * j] = v;
-        j += 1;
+    for (j, v) in row.iter().enumerate() {
+        out[from + 4 * j] = *v;
     }
 }
 
-// The five rows of five b points.
-fn put_b(g: [[i32; 5]; 5], out: &mut [i32], from: usize)
-    requires { (from + 4 * (5 * 5) ≤ length out.old + 3) × Square 5 g }
-    ensures { PointsPlaced out.old out.new from (rows g) }
+// A grid of N rows of N points, row after row.
+fn put_grid<const N: usize>(g: [[i32; N]; N], out: &mut [i32], from: usize)
+    requires { (from + 4 * (N * N) ≤ length out.old + 3) × Square N g }
+    ensures { PointsPlaced out.old out.new from (rows g.entry) }
 {
-    let mut i: usize = 0;
-    while i < 5 {
+    for i in 0..N {
         let row = g[i];
-        put_row(&row, out, from + 20 * i);
-        i += 1;
-    }
-}
-
-// The four rows of four a points.
-fn put_a(g: [[i32; 4]; 4], out: &mut [i32], from: usize)
-    requires { (from + 4 * (4 * 4) ≤ length out.old + 3) × Square 4 g }
-    ensures { PointsPlaced out.old out.new from (rows g) }
-{
-    let mut i: usize = 0;
-    while i < 4 {
-        let row = g[i];
-        put_row(&row, out, from + 16 * i);
-        i += 1;
+        put_row(&row, out, from + 4 * N * i);
     }
 }
 
@@ -59,6 +41,6 @@ pub fn put_lane(n: crate::sides::NetSides, lanes: &mut [i32], k: usize)
     let r3 = crate::rows::side_rows(s3, s0, s2, s1);
     let a = crate::rows::a_grid(r0, r1, r2, r3);
     let b = crate::rows::b_grid(s0.head, s0.tail, s2.head, s3.tail, r0, r1, r2, r3, a);
-    put_b(b, lanes, k);
-    put_a(a, lanes, k + 100);
+    put_grid(b, lanes, k);
+    put_grid(a, lanes, k + 100);
 }

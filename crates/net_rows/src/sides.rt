@@ -57,12 +57,12 @@ fn side(head: i32, tail: i32, x: i32, y: i32, v: i32, w: i32, cosine: i64) -> Si
     ensures { Made head tail x y v w cosine result }
 {
     SideValues {
-        head: head,
-        tail: tail,
-        x: x,
-        y: y,
+        head,
+        tail,
+        x,
+        y,
         inner: inner(x, y, v, w),
-        cosine: cosine,
+        cosine,
     }
 }
 

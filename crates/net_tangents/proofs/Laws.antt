@@ -7,7 +7,7 @@ use Prim.Native.Nat.{ℕ, suc, ◌+◌, ◌-◌, ◌*◌, ◌/◌, ◌%◌, ◌^
 use native.Mathlib.Omega.{arith}
 use lib.Dec.{eqb, ltb, lit≤}
 use borrow.Author.Tests.{eqb-true, eqb-false, ltb-true, ltb-false}
-use lib.ListN.{length, get_or, set, length-set}
+use lib.ListN.{length, get_or, set}
 use lib.Seq.{get_or-set_same, get_or-set_other}
 use lib.IntN.{ℤ, pos, nat_abs, ◌+ℤ◌, ◌-ℤ◌}
 use mir.Syntax.{w64}
@@ -19,7 +19,7 @@ use Rattle.paper.specs.Floats.{net_verdict}
 use Rattle.paper.specs.Sampling.{side_at}
 use Rattle.paper.specs.Triangles.{turn_weights}
 use Rattle.paper.specs.Tangents.{tangent_pair}
-use Rattle.mesh.proofs.Fills.{filled_none, filled_step}
+use Rattle.mesh.proofs.Fills.{filled_none}
 use Rattle.mesh.proofs.Scans.{ways}
 use Rattle.bernstein.specs.declared.Matrix5.{Matrix5}
 use Rattle.bernstein.specs.declared.Vector5.{Vector5}
@@ -30,7 +30,7 @@ use Rattle.strips.specs.PointRows.{FilledTo, Fills}
 use Rattle.net_points.specs.writing.Laid.{pick_matrix, turned_of, ring_at}
 use Rattle.net_points.proofs.writing.Fill.{filled_at}
 use Rattle.net_points.proofs.writing.Laws.{ring_room, rings_last}
-use Rattle.net_tangents.specs.Lanes.{tailward_of, centreward_of, lane_of, forward_of, ten_of, lane_number, LanePut, Lanes, LanesFilled}
+use Rattle.net_tangents.specs.Lanes.{tailward_of, centreward_of, lane_of, forward_of, lane_number, LanePut, Lanes, LanesFilled}
 use Rattle.net_tangents.specs.Lanes.{AxisFilled, Added, SixStates, rows_at, value_number, axis_of}
 use Rattle.net_tangents.specs.Paired.{part_number, RingAim, RingPairs, CentrePair}
 use Rattle.strips.proofs.Rowed.{fills_more}
@@ -38,16 +38,7 @@ use Rattle.net_tangents.proofs.Cubic.{less_size}
 use Rattle.net_tangents.proofs.Lanes.{lanes_start, states_value}
 use Rattle.net_tangents.proofs.Values.{lane_is, lane_smooth, values_part}
 
--- ---- one more number of a copy
-pub copy_step : (g : ℕ → ℤ) (at e : ℕ) (first mid : List ℤ) (x : ℤ) → at + e < length mid → x ≡ g e → Fills g at e first mid → Fills g at (e + 1) first (set mid (at + e) x)
-copy_step g at e first mid x h v a f old filled values =
-    let q = a f old filled (λ y l. values y (omega arith)) in
-    subst (λ (n : ℕ). FilledTo f old n (set mid (at + e) x)) (let z : at + e + 1 ≡ at + (e + 1) = omega arith in z) (record {
-      long = simp length-set q.long;
-      holds = filled_step f old (at + e) mid x (pos 0) (omega (arith, q.long)) q.holds (v ∙ sym (values e (omega arith)));
-    })
-
--- four copies of six
+-- ---- four copies of six
 module _ (table : List ℤ) (lane : ℕ) (old a b c d : List ℤ) (n : length old ≡ 24) (f0 : Fills (λ e. get_or table (lane + e) (pos 0)) 0 6 old a)
     (f1 : Fills (λ e. get_or table (lane + 24 + e) (pos 0)) 6 6 a b) (f2 : Fills (λ e. get_or table (lane + 48 + e) (pos 0)) 12 6 b c)
     (f3 : Fills (λ e. get_or table (lane + 72 + e) (pos 0)) 18 6 c d) where
@@ -121,25 +112,7 @@ pub record LaneTo (ten : List ℤ) (lane s : ℕ) (old mid : List ℤ) : Type 0 
   pub there : (r : ℕ) → r < s → get_or mid (24 * r + lane) (pos 0) ≡ get_or ten r (pos 0)
   pub others : (r z : ℕ) → z < 24 → (z ≡ lane → ⊥) → get_or mid (24 * r + z) (pos 0) ≡ get_or old (24 * r + z) (pos 0)
 
-pub lane_none : (ten : List ℤ) (lane : ℕ) (old : List ℤ) → length old ≡ 240 → LaneTo ten lane 0 old old
-lane_none ten lane old h = record { long = h; there = λ r l. absurd (omega arith); others = λ r z l o. refl }
-
-pub lane_step : (ten : List ℤ) (lane s : ℕ) (v : ℤ) (old mid : List ℤ) → lane < 24 → s < 10 → v ≡ get_or ten s (pos 0) → LaneTo ten lane s old mid
-    → LaneTo ten lane (s + 1) old (set mid (24 * s + lane) v)
-lane_step ten lane s v old mid a b e m = record {
-  long = simp length-set m.long;
-  there = λ r l. ⊎_elim (λ t. let z : r ≡ s = eqb-true r s t in rw z (get_or-set_same mid (24 * s + lane) v (pos 0) (omega (arith, m.long)) ∙ e))
-      (λ t. let o = eqb-false r s t in get_or-set_other mid (24 * s + lane) (24 * r + lane) v (pos 0) (λ w. omega (arith, o)) ∙ m.there r (omega (arith, o))) (ways (eqb r s));
-  others = λ r z l o. get_or-set_other mid (24 * s + lane) (24 * r + z) v (pos 0) (λ w. omega (arith, o)) ∙ m.others r z l o;
-}
-
-pub lane_put : (ten : List ℤ) (lane s : ℕ) (m : Matrix5) (old new : List ℤ) → s ≡ 10 → ten ≡ ten_of m → LaneTo ten lane s old new → LanePut lane m old new
-lane_put ten lane s m old new q e l = record {
-  there = λ r b. l.there r (omega arith) ∙ ap (λ (x : List ℤ). get_or x r (pos 0)) e;
-  others = l.others;
-}
-
--- both lanes of a axis, out of its polynomial
+-- both lanes of an axis, out of its polynomial
 module _ (numbers : List ℤ) (n axis : ℕ) (few : axis < 12) (old mid new : List ℤ) (c a b : Matrix5) where
   abbrev side : ℕ
   side = axis / 3
@@ -175,13 +148,6 @@ module _ (numbers : List ℤ) (n axis : ℕ) (few : axis < 12) (old mid new : Li
       there = record { filled = λ s y h i a b. there s y h i (omega arith) };
       others = λ s y i o. q.others s y i (λ w. o (omega (arith, w))) ∙ p.others s y i (λ w. o (omega (arith, w)));
     }
-
-pub axes_step : (F : ℕ → Matrix5) (from l : ℕ) (old new : List ℤ) (to : ℕ) → l + 1 ≡ to → LanesFilled F from l old → AxisFilled F l old new → LanesFilled F from to new
-axes_step F from l old new to e a b = record {
-  filled = λ s y h i j k. ⊎_elim
-      (λ t. let z : axis_of y ≡ l = eqb-true (axis_of y) l t in b.there.filled s y h i (omega (arith, z)) (omega (arith, z)))
-      (λ t. let o = eqb-false (axis_of y) l t in b.others s y i o ∙ a.filled s y h i j (omega (arith, o))) (ways (eqb (axis_of y) l));
-}
 
 lanes_filled : (numbers : List ℤ) → net_verdict numbers ≡ sound → (n from to first last : ℕ) (table : List ℤ) → n ≤ 16 → last ≤ 24
     → ((y : ℕ) → first ≤ y → y < last → (from ≤ axis_of y) × (axis_of y < to)) → LanesFilled (lane_of numbers n) from to table → length table ≡ 240

@@ -2,6 +2,7 @@
 use mathlib.Core.Path.{◌≡◌, refl, sym, ap, ◌∙◌, subst}
 use mathlib.Core.Logic.{⊎_elim}
 use mathlib.Core.List.{List}
+use Rattle.std.specs.Prelude.{Ok}
 use Prim.Native.Nat.{ℕ, zero, suc, ◌+◌, ◌-◌, ◌*◌, ◌/◌, ◌%◌, ◌^◌, ◌≤◌, ◌<◌}
 use native.Mathlib.Nat.{zero-mod, mod-lt}
 use native.Mathlib.Omega.{arith}
@@ -13,16 +14,13 @@ use lib.IntN.{ℤ, pos, nat_abs}
 use Rattle.paper.specs.Scan.{pick_n}
 use Rattle.paper.specs.Mesh.{Mesh, corner_count}
 use Rattle.paper.specs.Corners.{sum_of, start_of, face_of, first_of}
-use Rattle.paper.specs.Faults.{Accepted, sound, stated, kept}
+use Rattle.paper.specs.Faults.{Accepted, sound}
 use Rattle.paper.specs.Links.{link_table}
 use Rattle.paper.specs.Net.{Side, side0, side1, side2, side3}
 use Rattle.paper.specs.Calls.{nets, per_corner}
 use Rattle.paper.specs.Floats.{net_verdict}
 use Rattle.paper.specs.Borders.{beside}
 use Rattle.paper.specs.Sampling.{most_parts, side_at}
-use Rattle.paper.specs.declared.Answer.{Answer}
-use Rattle.paper.specs.declared.Answer.TheVariants.{Done}
-use Rattle.paper.specs.declared.Tangents.{Tangents}
 use Rattle.paper.specs.Triangles.{turn_weights, groups, level, segments, group_size, point_groups, owned, points_before, level_verdict}
 use Rattle.paper.specs.Tangents.{tangent_pair, tangent_number, own_tangent, tangent_at, tangent_list, tangent_verdict, TangentsFilled}
 use Rattle.paper.specs.Claims.{TangentsWithin}
@@ -122,21 +120,20 @@ module _ (M : Mesh) (levels : List ℕ) (ok : Accepted M) (leveled : Leveled M l
       (number_within _ (omega (arith, most, start_rises (point_groups M levels) f (length (point_groups M levels)))))
 
 -- ---- what a call leaves
-module _ (M : Mesh) (links levels : List ℕ) (first count : ℕ) (old : List ℤ) (r : Tangents) (out : List ℤ)
-    (t : TangentsFilled M links levels first count old r out) (done : r.answer ≡ Done) where
+module _ (M : Mesh) (links levels : List ℕ) (first count : ℕ) (old : List ℤ) (n : ℕ) (out : List ℤ)
+    (t : TangentsFilled M links levels first count old (Ok n) out) where
   passed : level_verdict M links first count levels ≡ sound
   unfolding tangent_verdict
-  passed = sound_left _ _ (sym t.answers ∙ ap stated done)
+  passed = sound_left _ _ (sym t.answers)
 
-  tangents_left : take r.numbers out ≡ tangent_list M levels first count
-  tangents_left = begun _ old out _ r.answer done t.numbers_are t.holds
+  tangents_left : take n out ≡ tangent_list M levels first count
+  tangents_left = begun _ old out _ t.numbers_are t.holds
 
-  filled_within : (x : ℕ) → x < r.numbers → nat_abs (get_or out x (pos 0)) ≤ 2 ^ 42
+  filled_within : (x : ℕ) → x < n → nat_abs (get_or out x (pos 0)) ≤ 2 ^ 42
   filled_within x h =
-      let n : r.numbers ≡ length (tangent_list M levels first count) =
-      t.numbers_are ∙ ap (λ (a : Answer). kept (stated a) (length (tangent_list M levels first count)) 0) done in
-      subst (λ (z : ℤ). nat_abs z ≤ 2 ^ 42) (ap (λ (l : List ℤ). get_or l x (pos 0)) (sym tangents_left) ∙ get_or-take r.numbers out x (pos 0) h)
-      (list_within M levels (accepted_by M links levels first count passed) (leveled_by M links levels first count passed) first count x (omega (arith, n)))
+      let e : n ≡ length (tangent_list M levels first count) = t.numbers_are in
+      subst (λ (z : ℤ). nat_abs z ≤ 2 ^ 42) (ap (λ (l : List ℤ). get_or l x (pos 0)) (sym tangents_left) ∙ get_or-take n out x (pos 0) h)
+      (list_within M levels (accepted_by M links levels first count passed) (leveled_by M links levels first count passed) first count x (omega (arith, e)))
 
 pub tangents_within : TangentsWithin
 tangents_within = (sampled_within, filled_within)

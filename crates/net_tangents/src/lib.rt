@@ -109,13 +109,11 @@ fn put_rings(table: &mut [i64], n: usize, out: &mut [i64], at: usize)
     ensures { (numbers : List ℤ) → Lanes (lane_of numbers n) 0 24 0 table.old → RingsPaired numbers n at out.old out.new }
 {
     let mut to = at;
-    let mut k = 0;
-    while k + 1 < n {
+    for k in 0..n - 1 {
         let w = n - k - 1;
         next_row(table);
         put_ring(table, w, out, to);
         to += 24 * w;
-        k += 1;
     }
     next_row(table);
     put_places(table, 0, 0, 1, out, to);
@@ -127,11 +125,9 @@ fn put_ring(table: &[i64], w: usize, out: &mut [i64], at: usize)
     ensures { (numbers : List ℤ) (n k : ℕ) → Lanes (lane_of numbers n) 0 24 k table.now → k + w ≤ n → RingPaired numbers n k w at out.old out.new }
 {
     let mut to = at;
-    let mut side = 0;
-    while side < 4 {
+    for side in 0..4 {
         put_places(table, 6 * side, 0, w, out, to);
         to += 6 * w;
-        side += 1;
     }
 }
 
@@ -140,10 +136,8 @@ fn fill_lanes(numbers: &[i32], n: usize, from: usize, count: usize, table: &mut 
     requires { (net_verdict numbers.now ≡ sound) × (n ≤ 16) × (from + count ≤ 12) × (length table.old ≡ 240) }
     ensures { LanesFilled (lane_of numbers.now n) from (from + count) table.new }
 {
-    let mut i = 0;
-    while i < count {
-        fill_axis(numbers, n, from + i, table);
-        i += 1;
+    for axis in from..from + count {
+        fill_axis(numbers, n, axis, table);
     }
 }
 
@@ -302,10 +296,8 @@ fn put_lane(table: &mut [i64], lane: usize, m: Matrix5)
     let r2 = m.r2;
     let r3 = m.r3;
     let ten = [r0.a, r1.a, r2.a, r3.a, r0.b, r1.b, r2.b, r0.c, r1.c, r0.d];
-    let mut s = 0;
-    while s < 10 {
+    for s in 0..10 {
         table[24 * s + lane] = ten[s];
-        s += 1;
     }
 }
 
@@ -325,10 +317,8 @@ fn add_ahead(list: &mut [i64], at: usize, to: usize, gap: usize)
     requires sizes { (i : ℕ) → at ≤ i → i < to → (nat_abs (get_or list.old i (pos 0)) ≤ 2 ^ 60) × (nat_abs (get_or list.old (i + gap) (pos 0)) ≤ 2 ^ 60) }
     ensures { Added at to gap list.old list.new }
 {
-    let mut i = at;
-    while i < to {
-        list[i] = list[i] + list[i + gap];
-        i += 1;
+    for i in at..to {
+        list[i] += list[i + gap];
     }
 }
 
@@ -340,11 +330,9 @@ fn put_places(table: &[i64], lane: usize, first: usize, count: usize, out: &mut 
 {
     let mut states = [0i64; STATES];
     first_states(table, lane, first, &mut states);
-    let mut j = 0;
-    while j < count {
+    for j in 0..count {
         copy_six(&states, 0, out, at + 6 * j);
         next_states(&mut states);
-        j += 1;
     }
 }
 
@@ -375,9 +363,5 @@ fn copy_six(list: &[i64], from: usize, out: &mut [i64], at: usize)
     requires { (from + 6 ≤ length list.now) × (at + 6 ≤ length out.old) }
     ensures { Fills (λ e. get_or list.now (from + e) (pos 0)) at 6 out.old out.new }
 {
-    let mut e = 0;
-    while e < 6 {
-        out[at + e] = list[from + e];
-        e += 1;
-    }
+    out[at..at + 6].copy_from_slice(&list[from..from + 6]);
 }

@@ -148,16 +148,6 @@ module _ {corners low table levels : List ℕ} (M : Mesh) (o : Of M corners low 
       let b = below_of M o c h in
       omega (arith, first_from_lem M.sides c (omega (arith, (closed_of M (sound_of M o.accepted)).sums)))
 
--- ---- running sums
-pub sum_none : (f : ℕ → ℕ) (first : ℕ) → f (first + 0) ≡ f first + 0
-sum_none f first = ap f (let z : first + 0 ≡ first = omega arith in z) ∙ omega arith
-
-pub sum_more : (f : ℕ → ℕ) (first c sum r : ℕ) → f (first + c) ≡ f first + sum → f (first + c + 1) ≡ f (first + c) + r → f (first + (c + 1)) ≡ f first + (sum + r)
-sum_more f first c sum r p q = ap f (let z : first + (c + 1) ≡ first + c + 1 = omega arith in z) ∙ omega arith
-
-pub sum_all : (f : ℕ → ℕ) (first c count sum : ℕ) → c ≡ count → f (first + c) ≡ f first + sum → sum ≡ f (first + count) - f first
-sum_all f first c count sum q p = let z = ap (λ (x : ℕ). f (first + x)) q in omega arith
-
 -- ---- the triangles of a corner
 pub triangles_rest : {corners low table levels : List ℕ} (M : Mesh) (o : Of M corners low table levels) (c : ℕ) → c < length levels → (a b d e n : ℕ)
     → a ≡ segments M levels c side0 → b ≡ segments M levels c side1 → d ≡ segments M levels c side2 → e ≡ segments M levels c side3 → n ≡ level levels c

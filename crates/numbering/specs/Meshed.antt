@@ -10,6 +10,7 @@ use Rattle.paper.specs.Sampling.{most_parts}
 use Rattle.paper.specs.Triangles.{groups, level, point_groups, points_before}
 use Rattle.walk.specs.Table.{Tabled}
 use Rattle.owners.specs.Corners.{Lowests}
+use Rattle.numbering.specs.declared.CornerTables.{CornerTables}
 
 -- the mesh M with levels, and the lists that the functions are lent
 pub record Of (M : Mesh) (corners low table levels : List ℕ) : Type 0 where
@@ -33,6 +34,19 @@ pub record PointsStarted (M : Mesh) (corners low table levels starts : List ℕ)
 pub record Starting (corners low table levels starts : List ℕ) : Type 0 where
   pub mesh : Mesh
   pub is : PointsStarted mesh corners low table levels starts
+
+-- the same of the tables that code passes together
+abbrev pub OfTables : Mesh → CornerTables → Type 0
+OfTables M L = Of M L.corners.now L.low.now L.table.now L.levels.now
+
+abbrev pub GivenTables : CornerTables → Type 0
+GivenTables L = Given L.corners.now L.low.now L.table.now L.levels.now
+
+abbrev pub StartedTables : Mesh → CornerTables → List ℕ → Type 0
+StartedTables M L starts = PointsStarted M L.corners.now L.low.now L.table.now L.levels.now starts
+
+abbrev pub StartingTables : CornerTables → List ℕ → Type 0
+StartingTables L starts = Starting L.corners.now L.low.now L.table.now L.levels.now starts
 
 -- where group g of corner c starts, and where the inner points of a side's curve
 abbrev pub group_start : Mesh → List ℕ → ℕ → ℕ → ℕ

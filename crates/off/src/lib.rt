@@ -10,9 +10,8 @@ ghost use Rattle.off_words.specs.Cursor.{Before};
 ghost use Rattle.off.specs.checking.Call.{OwnRoom, TextCopied};
 
 use crate::checking::read_checked;
-use dms_lists::refused;
 use off_words::Cursor;
-use paper::{Answer, Decoded, MOST_CORNERS, MOST_FACES, MOST_NUMBERS, MOST_PAIRS};
+use paper::{Lengths, MOST_CORNERS, MOST_FACES, MOST_NUMBERS, MOST_PAIRS, PLAIN, Refusal};
 
 // The lists of an OFF text, into the beginnings of the lent ones.
 pub fn read(
@@ -21,22 +20,23 @@ pub fn read(
     sides: &mut [u8],
     corners: &mut [u16],
     sharpness: &mut [u8],
-) -> Decoded
+) -> Result<Lengths, Refusal>
     ensures { OffRead text.now (mesh_of coordinates.old sides.old corners.old sharpness.old) result (mesh_of coordinates.new sides.new corners.new sharpness.new) }
 {
+    let refusal = Refusal {
+        number: 24,
+        place: 0,
+    };
     if too_short(coordinates, sides, corners, sharpness) {
-        return refused(24, 0);
+        return Err(refusal);
     }
-    let mark = off_words::read_mark(text);
-    if !mark.ok {
-        return refused(24, 0);
-    }
+    let start = off_words::read_mark(text).ok_or(refusal)?;
     let mut numbers = [0i32; MOST_NUMBERS];
     let mut sizes = [0u8; MOST_FACES];
     let mut names = [0u16; MOST_CORNERS];
     read_through(
         text,
-        mark.next,
+        start,
         &mut numbers,
         &mut sizes,
         &mut names,
@@ -48,22 +48,18 @@ pub fn read(
 }
 
 // Whether a lent list is too short, of 24.
+#[tactic(auto, unfolding(paper::specs::Off::short))]
 fn too_short(coordinates: &[i32], sides: &[u8], corners: &[u16], sharpness: &[u8]) -> bool
     ensures { result ≡ short (four (length coordinates.now) (length sides.now) (length corners.now) (length sharpness.now)) }
 {
-    if coordinates.len() < MOST_NUMBERS {
-        return true;
-    }
-    if sides.len() < MOST_FACES {
-        return true;
-    }
-    if corners.len() < MOST_CORNERS {
-        return true;
-    }
-    sharpness.len() < MOST_PAIRS
+    coordinates.len() < MOST_NUMBERS
+        || sides.len() < MOST_FACES
+        || corners.len() < MOST_CORNERS
+        || sharpness.len() < MOST_PAIRS
 }
 
-// The words from the first count on, into own lists; after the last check these are copied to the lent ones, and the fourth is filled.
+// The words from the first count on, into own lists; after the last check these are copied to the lent ones, and the fourth is filled. The own
+// lists come as slices, each by itself: so no proof counts the zeros of an array.
 fn read_through(
     text: &[u8],
     c: Cursor,
@@ -74,28 +70,18 @@ fn read_through(
     sides: &mut [u8],
     corners: &mut [u16],
     sharpness: &mut [u8],
-) -> Decoded
+) -> Result<Lengths, Refusal>
     requires { Before text.now 1 c × OwnRoom numbers.old sizes.old names.old × OwnRoom coordinates.old sides.old corners.old × (2 * most_corners ≤ length sharpness.old) }
     ensures { TextCopied text.now (mesh_of coordinates.old sides.old corners.old sharpness.old) result (mesh_of coordinates.new sides.new corners.new sharpness.new) }
 {
-    let d = read_checked(text, c, numbers, sizes, names);
-    let answer = d.answer;
-    if let Answer::Refused(number, place) = answer {
-        return refused(number, place);
-    }
-    let n = d.coordinates;
-    let f = d.sides;
-    let k = d.corners;
-    mesh::copy_words(&numbers[..n], coordinates);
-    mesh::copy_bytes(&sizes[..f], sides);
-    mesh::copy_halves(&names[..k], corners);
-    let pairs = 2 * k;
-    dms_lists::lists::fill_plain(pairs, sharpness);
-    Decoded {
-        answer: Answer::Done,
-        coordinates: n,
-        sides: f,
-        corners: k,
+    let lengths = read_checked(text, c, numbers, sizes, names)?;
+    mesh::copy(&numbers[..lengths.coordinates], coordinates);
+    mesh::copy(&sizes[..lengths.sides], sides);
+    mesh::copy(&names[..lengths.corners], corners);
+    let pairs = 2 * lengths.corners;
+    sharpness[..pairs].fill(PLAIN);
+    Ok(Lengths {
         sharpness: pairs,
-    }
+        ..lengths
+    })
 }

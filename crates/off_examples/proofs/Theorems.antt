@@ -12,13 +12,14 @@ use Rattle.mesh.proofs.Ranges.{none_left, none_right}
 use Rattle.mesh.proofs.Links.{values_length}
 use Rattle.mesh.proofs.Verdicts.{sound_left, sound_right, single_sound, unsound}
 use Rattle.paper.specs.Scan.{values_from}
-use Rattle.paper.specs.Mesh.{Mesh, Lengths, lengths_of, corner_count}
+use Rattle.paper.specs.Mesh.{Mesh, lengths_of, corner_count}
 use Rattle.paper.specs.Corners.{sum_of}
-use Rattle.paper.specs.Faults.{Verdict, sound, fault, ◌or_else◌, single, lowest_of, fault6, list_faults, link_faults, verdict, stated}
+use Rattle.paper.specs.Faults.{Verdict, sound, fault, ◌or_else◌, single, lowest_of, fault6, list_faults, link_faults, verdict}
 use Rattle.paper.specs.Off.{words_of, Kind, list_count, coordinate, side_count, vertex_number, bad, natural_at, vertices, faces, faces_start, sides_at, face_after}
 use Rattle.paper.specs.Off.{end_from, words_end, bad_from, bad_faces, needed_verdict, sides_from, corners_from, words_mesh, is_off, short, fault24, fault26}
 use Rattle.paper.specs.Off.{words_verdict, off_verdict}
 use Rattle.paper.specs.Claims.{NoSix, MissingWord, WholeText}
+use Rattle.paper.specs.declared.Lengths.{Lengths}
 
 -- ---- the side counts sum to the corner count
 sums : (words : List (List ℕ)) (p left : ℕ) → sum_of (sides_from words p left) ≡ length (corners_from words p left)
@@ -161,8 +162,8 @@ missing_word text lent r lists p c e =
 
 pub whole_text : WholeText
 unfolding off_verdict words_verdict fault26
-whole_text text lent r lists c e =
-    let v = sym c.answers ∙ ap stated e in
+whole_text text lent l lists c =
+    let v = sym c.answers in
     let later = sound_right _ _ v in
     let some = some_word (words_of text) (lengths_of lent) (sound_left _ _ v) in
     let enough : words_end (words_of text) ≤ length (words_of text) = (read_all (words_of text) some).all (sound_left _ _ later) in

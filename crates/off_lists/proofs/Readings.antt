@@ -1,6 +1,6 @@
 -- A row of words read into an own list: what the loops keep, and what they end with.
 use mathlib.Core.Path.{◌≡◌, refl, sym, ap, ◌∙◌}
-use mathlib.Core.Bool.{true, false}
+use mathlib.Core.Bool.{false}
 use mathlib.Core.List.{List, [], append-nil, append_assoc}
 use Prim.Native.Nat.{ℕ, suc, ◌+◌, ◌-◌, ◌<◌}
 use native.Mathlib.Omega.{arith}
@@ -9,17 +9,19 @@ use lib.IntN.{ℤ}
 use lib.ListN.{get_or, take, set, length-set}
 use lib.Seq.{take-suc-set}
 use Rattle.mesh.proofs.Fills.{values_snoc}
-use Rattle.mesh.proofs.Verdicts.{single_hit, single_miss}
+use Rattle.std.specs.Prelude.{Ok, Err}
+use Rattle.mesh.proofs.Verdicts.{single_hit, refusing}
 use Rattle.paper.specs.Scan.{values_from}
-use Rattle.paper.specs.Faults.{fault}
-use Rattle.paper.specs.Off.{Kind, coordinate, vertex_number, words_of, is_number, bad, value_at, natural_at, bad_from}
-use Rattle.off_words.specs.Cursor.{Before, NumberRead}
+use Rattle.paper.specs.Faults.{fault, single}
+use Rattle.paper.specs.declared.Refusal.{Refusal}
+use Rattle.paper.specs.Off.{Kind, coordinate, vertex_number, words_of, is_number, value_of, bad, value_at, natural_at, bad_from}
+use Rattle.off_words.specs.Cursor.{Before, NumberThere}
 use Rattle.off_words.specs.declared.Number.{Number}
 use Rattle.off_words.specs.declared.Cursor.{Cursor}
 use Rattle.off_lists.specs.Reading.{Stored, ListRead, NaturalRead}
 use Rattle.off_lists.specs.declared.Natural.{Natural}
-use Rattle.off_lists.proofs.Bad.{no_number, serves, value_is, left_stop, left_step, left_none, never}
-use Rattle.off_lists.proofs.Naturals.{natural_good, natural_bad, natural_at_lem}
+use Rattle.off_lists.proofs.Bad.{no_number, serves, value_is, left_stop, left_step, left_none}
+use Rattle.off_lists.proofs.Naturals.{word_good, natural_at_lem}
 
 module _ {A : Type 0} (f : ℕ → A) (p at : ℕ) (old : List A) where
   pub stored_none : Stored f p 0 at old old
@@ -63,60 +65,49 @@ module _ {A : Type 0} (text : List ℕ) (kind : Kind) (f : ℕ → A) (p n at : 
           stored = stored_step f p at old i new v q r.stored;
         }
 
-    pub reading_stop : i < n → bad (words_of text) kind (p + i) ≡ true → ListRead text kind f p n at old new (record { ok = false; next = next })
-    reading_stop h e =
-        record {
-          read = record {
-            answers = r.rest ∙ left_stop (words_of text) kind p n i h e ∙ sym (single_hit 25 next.word refl ∙ ap (fault 25) r.before.number);
-            next_is = never;
-          };
-          stored = never;
-        }
+    pub reading_stop : i < n → (d : Refusal) → fault d.number d.place ≡ single 25 (bad (words_of text) kind (p + i)) (p + i)
+        → ListRead text kind f p n at old new (Err d)
+    reading_stop h d e = record { answers = sym (r.rest ∙ left_stop (words_of text) kind p n i h d.number d.place e); next = tt; stored = tt }
 
-    pub reading_all : i ≡ n → ListRead text kind f p n at old new (record { ok = true; next = next })
-    reading_all q =
-        record {
-          read = record {
-            answers = r.rest ∙ left_none (words_of text) kind p n i q ∙ sym (single_miss 25 next.word refl);
-            next_is = λ z. rw q at r.before;
-          };
-          stored = λ z. rw q at r.stored;
-        }
+    pub reading_all : i ≡ n → ListRead text kind f p n at old new (Ok next)
+    reading_all q = record { answers = sym (r.rest ∙ left_none (words_of text) kind p n i q); next = rw q at r.before; stored = rw q at r.stored }
 
 -- ---- coordinates
-module _ (text : List ℕ) where
-  module _ (next : Cursor) (p : ℕ) (b : Before text p next) (m : Number) (e : NumberRead text next.word m) where
-    pub coordinate_bad : m.ok ≡ false → bad (words_of text) coordinate p ≡ true
-    coordinate_bad o = no_number (words_of text) p coordinate (ap (λ (k : ℕ). is_number (get_or (words_of text) k [])) (sym b.number) ∙ sym e.ok ∙ o)
+module _ (text : List ℕ) (p n : ℕ) (old new : List ℤ) (i : ℕ) (next : Cursor)
+    (r : Reading text coordinate (value_at (words_of text) coordinate) p n 0 old new i next) (h : i < n) where
+  word : get_or (words_of text) next.word [] ≡ get_or (words_of text) (p + i) []
+  word = ap (λ (k : ℕ). get_or (words_of text) k []) r.before.number
 
-    coordinate_good : m.ok ≡ true → bad (words_of text) coordinate p ≡ false
-    coordinate_good o = serves (words_of text) p coordinate (ap (λ (k : ℕ). is_number (get_or (words_of text) k [])) (sym b.number) ∙ sym e.ok ∙ o) refl
+  pub coordinate_stop : is_number (get_or (words_of text) next.word []) ≡ false
+      → ListRead text coordinate (value_at (words_of text) coordinate) p n 0 old new (refusing 25 next.word)
+  coordinate_stop e =
+      let b = no_number (words_of text) (p + i) coordinate (ap is_number (sym word) ∙ e) in
+      reading_stop text coordinate _ p n 0 old new i next r h (record { number = 25; place = next.word })
+      (ap (fault 25) r.before.number ∙ sym (single_hit 25 (p + i) b))
 
-    coordinate_is : m.ok ≡ true → m.value ≡ value_at (words_of text) coordinate p
-    coordinate_is o = rw (value_is (words_of text) p coordinate (coordinate_good o), ← b.number) (e.value o)
+  module _ (m : Number) (e : NumberThere text next.word m) where
+    good : bad (words_of text) coordinate (p + i) ≡ false
+    good = serves (words_of text) (p + i) coordinate (ap is_number (sym word) ∙ e.is) refl
 
-    coordinate_next : m.ok ≡ true → Before text (p + 1) m.next
-    coordinate_next o = rw b.number at (e.next o)
+    pub coordinate_step : (z : ℤ) → z ≡ m.value → (put : List ℤ) → put ≡ set new i z
+        → Reading text coordinate (value_at (words_of text) coordinate) p n 0 old put (i + 1) m.next
+    coordinate_step z q put w =
+        let x : 0 + i ≡ i = omega arith in
+        let v : z ≡ value_at (words_of text) coordinate (p + i) = q ∙ e.value ∙ ap value_of word ∙ sym (value_is (words_of text) (p + i) coordinate good) in
+        let b : Before text (p + i + 1) m.next = rw r.before.number at e.next in
+        rw w (rw x at (reading_step text coordinate _ p n 0 old new i next r h good z v m.next b))
 
-  pub coordinate_step : (p n : ℕ) (old new : List ℤ) (i : ℕ) (next : Cursor) (r : Reading text coordinate (value_at
-      (words_of text) coordinate) p n 0 old new i next)
-      → i < n → (m : Number) → NumberRead text next.word m → m.ok ≡ true → (z : ℤ) → z ≡ m.value → (put : List ℤ) → put ≡ set new i z
-      → Reading text coordinate (value_at (words_of text) coordinate) p n 0 old put (i + 1) m.next
-  coordinate_step p n old new i next r h m e o z q put w =
-      let x : 0 + i ≡ i = omega arith in
-      let b = r.before in
-      rw w (rw x at
-      (reading_step _ _ _ p n 0 old new i next r h (coordinate_good next _ b m e o) z (q ∙ coordinate_is next _ b m e o) _ (coordinate_next next _ b m e o)))
+-- ---- corners
+module _ (text : List ℕ) (p n at : ℕ) (old new : List ℕ) (i : ℕ) (next : Cursor)
+    (r : Reading text vertex_number (natural_at (words_of text) vertex_number) p n at old new i next) (h : i < n) where
+  pub corner_stop : (d : Refusal) → NaturalRead text next.word 65535 (Err d)
+      → ListRead text vertex_number (natural_at (words_of text) vertex_number) p n at old new (Err d)
+  corner_stop d e =
+      let one = natural_at_lem text (p + i) next.word 65535 (Err d) r.before.number e in
+      reading_stop text vertex_number _ p n at old new i next r h d one.answers
 
-  -- ---- corners
-  pub corner_step : (p n at : ℕ) (old new : List ℕ) (i : ℕ) (next : Cursor)
-      (r : Reading text vertex_number (natural_at (words_of text) vertex_number) p n at old new i next)
-      → i < n → (m : Natural) → NaturalRead text next.word 65535 m → m.ok ≡ true → (put : List ℕ) → put ≡ set new (at + i) m.value
+  pub corner_step : (m : Natural) → NaturalRead text next.word 65535 (Ok m) → (put : List ℕ) → put ≡ set new (at + i) m.value
       → Reading text vertex_number (natural_at (words_of text) vertex_number) p n at old put (i + 1) m.next
-  corner_step p n at old new i next r h m e o put w =
-      let d = natural_at_lem text (p + i) next.word 65535 m r.before.number e in
-      rw w (reading_step _ _ _ p n at old new i next r h (natural_good text (p + i) 65535 m d o) m.value (d.value o) m.next (d.next o))
-
-  pub corner_bad : (p : ℕ) (next : Cursor) → Before text p next → (m : Natural) → NaturalRead text next.word 65535 m → m.ok ≡ false
-      → bad (words_of text) vertex_number p ≡ true
-  corner_bad p next b m e o = natural_bad text p 65535 m (natural_at_lem text p next.word 65535 m b.number e) o
+  corner_step m e put w =
+      let one = natural_at_lem text (p + i) next.word 65535 (Ok m) r.before.number e in
+      rw w (reading_step text vertex_number _ p n at old new i next r h (word_good (p + i) _ one.answers) m.value one.there.value m.next one.there.next)

@@ -2,14 +2,13 @@
 // The words of an OFF text after the mark, read in their order into own lists, with checks 25 and 26. The text is read once, each word's number taken from
 // its bytes when its end is found. A word that is missing or no number of its kind ends the reading before it. Numbers past the end of an own list are read
 // and not kept: how many there are is all that 4 asks.
-ghost use Rattle.std.specs.Prelude.{◌≡◌, false, ◌+◌, ◌*◌, ◌<◌, ◌≤◌, set};
+ghost use Rattle.std.specs.Prelude.{◌≡◌, ◌+◌, ◌<◌, ◌≤◌, set};
 ghost use Rattle.paper.specs.Off.{coordinate, vertex_number, words_of, value_at, natural_at};
 ghost use Rattle.off_words.specs.Cursor.{Before};
 ghost use Rattle.off_lists.specs.Reading.{NaturalRead, HeaderRead, ListRead, FaceRead, FacesRead, WordsRead};
 
-use dms_lists::refused;
 use off_words::Cursor;
-use paper::{Answer, Decoded};
+use paper::{Lengths, Refusal};
 
 // Checks 25 and 26, with the lists in own ones as far as these reach. What these hold after the lists, or beside a refusal, is free: no caller reads it.
 // The fourth length is told with the fourth list, after the last check.
@@ -19,36 +18,27 @@ pub fn read_words(
     coordinates: &mut [i32],
     sides: &mut [u8],
     corners: &mut [u16],
-) -> Decoded
+) -> Result<Lengths, Refusal>
     requires { Before text.now 1 c }
     ensures { WordsRead text.now result coordinates.new sides.new corners.new }
 {
-    let header = read_header(text, c);
-    let vertices_start = header.next;
-    if !header.ok {
-        return refused(25, vertices_start.word);
-    }
+    let header = read_header(text, c)?;
     let count = 3 * header.vertices;
-    let vertices = read_coordinates(text, vertices_start, count, coordinates);
-    let faces_start = vertices.next;
-    if !vertices.ok {
-        return refused(25, faces_start.word);
-    }
-    let faces = read_faces(text, faces_start, header.faces, sides, corners);
+    let faces_start = read_coordinates(text, header.next, count, coordinates)?;
+    let faces = read_faces(text, faces_start, header.faces, sides, corners)?;
     let end = faces.next;
-    if !faces.ok {
-        return refused(25, end.word);
-    }
     if end.has_word(text) {
-        return refused(26, end.word);
+        return Err(Refusal {
+            number: 26,
+            place: end.word,
+        });
     }
-    Decoded {
-        answer: Answer::Done,
+    Ok(Lengths {
         coordinates: count,
         sides: header.faces,
         corners: faces.corners,
         sharpness: 0,
-    }
+    })
 }
 
 // The largest count and vertex number, and the largest side count.
@@ -56,138 +46,77 @@ const MOST_COUNT: usize = 65535;
 
 const MOST_SIDE_COUNT: usize = 255;
 
-// A word as a number from 0 on, if it is one.
+// A word as a number from 0 on, and a cursor before the next word.
 #[derive(Clone, Copy)]
 pub struct Natural {
-    pub ok: bool,
     pub value: usize,
     pub next: Cursor,
 }
 
-// Whether all words that were asked are there and serve, and a cursor after them, or before the first that does not.
-#[derive(Clone, Copy)]
-pub struct Progress {
-    pub ok: bool,
-    pub next: Cursor,
-}
-
-// The same, with the counts of vertices and faces.
+// The counts of vertices and faces, and a cursor after the three counts.
 #[derive(Clone, Copy)]
 pub struct Header {
-    pub ok: bool,
     pub next: Cursor,
     pub vertices: usize,
     pub faces: usize,
 }
 
-// The same, with the side count of a face.
+// The side count of a face, and a cursor after its corners.
 #[derive(Clone, Copy)]
 pub struct ReadFace {
-    pub ok: bool,
     pub next: Cursor,
     pub sides: usize,
 }
 
-// The same, with the corners of all faces.
+// The corners of all faces, and a cursor after them.
 #[derive(Clone, Copy)]
 pub struct ReadFaces {
-    pub ok: bool,
     pub next: Cursor,
     pub corners: usize,
 }
 
-// The next word as a number from 0 to a largest.
-fn read_natural(text: &[u8], c: Cursor, most: usize) -> Natural
-    requires { Before text.now c.word c }
-    ensures { NaturalRead text.now c.word most result }
+// 25, at the word that comes next.
+fn bad_word(c: Cursor) -> Refusal
+    ensures { result ≡ record { number = 25; place = c.word } }
 {
-    let n = c.number(text);
-    if !n.ok {
-        return no_natural(c);
-    }
-    let value = n.value;
-    if value < 0 {
-        return no_natural(c);
-    }
-    let size = value as usize;
-    if most < size {
-        return no_natural(c);
-    }
-    let next = n.next;
-    Natural {
-        ok: true,
-        value: size,
-        next: next,
+    Refusal {
+        number: 25,
+        place: c.word,
     }
 }
 
-fn no_natural(c: Cursor) -> Natural
-    ensures { (result.ok ≡ false) × (result.value ≡ 0) }
+// The next word as a number from 0 to a largest.
+fn read_natural(text: &[u8], c: Cursor, most: usize) -> Result<Natural, Refusal>
+    requires { Before text.now c.word c }
+    ensures { NaturalRead text.now c.word most result }
 {
-    Natural {
-        ok: false,
-        value: 0,
-        next: c,
+    let n = c.number(text).ok_or(bad_word(c))?;
+    match usize::try_from(n.value) {
+        Ok(value) if value <= most => Ok(Natural {
+            value,
+            next: n.next,
+        }),
+        _ => Err(bad_word(c)),
     }
 }
 
 // The counts of vertices, faces and edges. The edge count is checked as the others are, and not used.
-fn read_header(text: &[u8], c: Cursor) -> Header
+fn read_header(text: &[u8], c: Cursor) -> Result<Header, Refusal>
     requires { Before text.now 1 c }
     ensures { HeaderRead text.now result }
 {
-    let v = read_natural(text, c, MOST_COUNT);
-    if !v.ok {
-        return no_header(c);
-    }
-    let after_vertices = v.next;
-    let f = read_natural(text, after_vertices, MOST_COUNT);
-    if !f.ok {
-        return no_header(after_vertices);
-    }
-    let after_faces = f.next;
-    let e = read_natural(text, after_faces, MOST_COUNT);
-    if !e.ok {
-        return no_header(after_faces);
-    }
-    let next = e.next;
-    Header {
-        ok: true,
-        next: next,
+    let v = read_natural(text, c, MOST_COUNT)?;
+    let f = read_natural(text, v.next, MOST_COUNT)?;
+    let e = read_natural(text, f.next, MOST_COUNT)?;
+    Ok(Header {
+        next: e.next,
         vertices: v.value,
         faces: f.value,
-    }
-}
-
-fn no_header(c: Cursor) -> Header
-    ensures { (result.ok ≡ false) × (result.next ≡ c) × (result.vertices ≡ 0) × (result.faces ≡ 0) }
-{
-    Header {
-        ok: false,
-        next: c,
-        vertices: 0,
-        faces: 0,
-    }
+    })
 }
 
 // An entry of an own list, if it has that entry.
-fn put_coordinate(list: &mut [i32], i: usize, value: i32)
-    ensures { list.new ≡ set list.old i value }
-{
-    if i < list.len() {
-        list[i] = value;
-    }
-}
-
-fn put_side(list: &mut [u8], i: usize, value: u8)
-    ensures { list.new ≡ set list.old i value }
-{
-    if i < list.len() {
-        list[i] = value;
-    }
-}
-
-fn put_corner(list: &mut [u16], i: usize, value: u16)
+fn put<T: Copy>(list: &mut [T], i: usize, value: T)
     ensures { list.new ≡ set list.old i value }
 {
     if i < list.len() {
@@ -196,53 +125,42 @@ fn put_corner(list: &mut [u16], i: usize, value: u16)
 }
 
 // So many coordinates.
-fn read_coordinates(text: &[u8], c: Cursor, count: usize, list: &mut [i32]) -> Progress
+fn read_coordinates(
+    text: &[u8],
+    c: Cursor,
+    count: usize,
+    list: &mut [i32],
+) -> Result<Cursor, Refusal>
     requires { Before text.now c.word c }
     ensures { ListRead text.now coordinate (value_at (words_of text.now) coordinate) c.word count 0 list.old list.new result }
 {
     let mut next = c;
-    let mut i = 0;
-    while i < count {
-        let n = next.number(text);
-        if !n.ok {
-            return Progress {
-                ok: false,
-                next: next,
-            };
-        }
-        put_coordinate(list, i, n.value);
+    for i in 0..count {
+        let n = next.number(text).ok_or(bad_word(next))?;
+        put(list, i, n.value);
         next = n.next;
-        i += 1;
     }
-    Progress {
-        ok: true,
-        next: next,
-    }
+    Ok(next)
 }
 
 // So many corners of a face, with `at` corners before them.
-fn read_corners(text: &[u8], c: Cursor, count: usize, list: &mut [u16], at: usize) -> Progress
+fn read_corners(
+    text: &[u8],
+    c: Cursor,
+    count: usize,
+    list: &mut [u16],
+    at: usize,
+) -> Result<Cursor, Refusal>
     requires { Before text.now c.word c × (at + count < 18446744073709551616) }
     ensures { ListRead text.now vertex_number (natural_at (words_of text.now) vertex_number) c.word count at list.old list.new result }
 {
     let mut next = c;
-    let mut i = 0;
-    while i < count {
-        let n = read_natural(text, next, MOST_COUNT);
-        if !n.ok {
-            return Progress {
-                ok: false,
-                next: next,
-            };
-        }
-        put_corner(list, at + i, n.value as u16);
+    for i in 0..count {
+        let n = read_natural(text, next, MOST_COUNT)?;
+        put(list, at + i, n.value as u16);
         next = n.next;
-        i += 1;
     }
-    Progress {
-        ok: true,
-        next: next,
-    }
+    Ok(next)
 }
 
 // A face, the one with this number, with `at` corners before its own.
@@ -253,27 +171,17 @@ fn read_face(
     face: usize,
     corners: &mut [u16],
     at: usize,
-) -> ReadFace
+) -> Result<ReadFace, Refusal>
     requires { Before text.now c.word c × (at < 18446744073709551000) }
     ensures { FaceRead text.now c.word face at sides.old corners.old result sides.new corners.new }
 {
-    let s = read_natural(text, c, MOST_SIDE_COUNT);
-    if !s.ok {
-        return ReadFace {
-            ok: false,
-            next: c,
-            sides: 0,
-        };
-    }
-    put_side(sides, face, s.value as u8);
-    let first = s.next;
-    let p = read_corners(text, first, s.value, corners, at);
-    let next = p.next;
-    ReadFace {
-        ok: p.ok,
-        next: next,
+    let s = read_natural(text, c, MOST_SIDE_COUNT)?;
+    put(sides, face, s.value as u8);
+    let next = read_corners(text, s.next, s.value, corners, at)?;
+    Ok(ReadFace {
+        next,
         sides: s.value,
-    }
+    })
 }
 
 // So many faces.
@@ -283,29 +191,16 @@ fn read_faces(
     count: usize,
     sides: &mut [u8],
     corners: &mut [u16],
-) -> ReadFaces
+) -> Result<ReadFaces, Refusal>
     requires { Before text.now c.word c × (count ≤ 65535) }
     ensures { FacesRead text.now c.word count sides.old corners.old result sides.new corners.new }
 {
     let mut next = c;
-    let mut f = 0;
-    let mut k: usize = 0;
-    while f < count {
-        let face = read_face(text, next, sides, f, corners, k);
+    let mut k = 0;
+    for f in 0..count {
+        let face = read_face(text, next, sides, f, corners, k)?;
         next = face.next;
-        if !face.ok {
-            return ReadFaces {
-                ok: false,
-                next: next,
-                corners: 0,
-            };
-        }
         k += face.sides;
-        f += 1;
     }
-    ReadFaces {
-        ok: true,
-        next: next,
-        corners: k,
-    }
+    Ok(ReadFaces { next, corners: k })
 }

@@ -1,16 +1,20 @@
 -- A cursor before a word, moved past separators and comments, and the word that it then stands at.
 use mathlib.Core.Path.{◌≡◌, refl, sym, ap, ◌∙◌, subst}
-use mathlib.Core.Bool.{true, false}
+use mathlib.Core.Bool.{Bool, true, false}
 use mathlib.Core.Logic.{⊎_elim}
 use mathlib.Core.List.{List, [], ◌∷◌}
-use Prim.Native.Nat.{ℕ, suc, ◌+◌, ◌-◌, ◌<◌, ◌≤◌}
+use Prim.Native.Nat.{ℕ, zero, suc, ◌+◌, ◌-◌, ◌<◌, ◌≤◌}
 use native.Mathlib.Omega.{arith}
 use native.Mathlib.Numerals.{add-one}
 use lib.Dec.{eqb, ltb}
 use lib.ListN.{length, get_or, take, drop, drop_of_length-le, length-drop}
 use lib.Seq.{drop-cons, drop-drop, get_or-drop, take-nil}
-use borrow.Author.Tests.{ltb-true, ltb-false, ne_eqb, lt-ltb, le-ltb, eq-eqb}
-use Rattle.mesh.proofs.Ranges.{or_left, or_right, or_none}
+use borrow.Author.Tests.{ltb-true, ltb-false, ne_eqb, lt-ltb, le-ltb}
+use Rattle.std.specs.Prelude.{None}
+use Rattle.std.specs.List.{position, position_or_len}
+use Rattle.std.proofs.lemmas.Option.{none-some}
+use Rattle.std.proofs.lemmas.List.Sums.{fails_before_first}
+use Rattle.mesh.proofs.Ranges.{or_none}
 use Rattle.mesh.proofs.Scans.{ways, clash}
 use Rattle.paper.specs.Off.{separates, uncommented, pieces_of, words_of, is_number, is_off}
 use Rattle.off_words.specs.Cursor.{ends, comment_words, Before, At, WordSpan}
@@ -19,10 +23,11 @@ use Rattle.off_words.proofs.Words.{past_separator, comment_starts, comment_on, c
 use Rattle.off_words.proofs.Words.{some_piece, run_is}
 
 -- ---- a comment, byte by byte
-module _ (text : List ℕ) (at : ℕ) where
-  pub comment_next : at < length text → eqb (get_or text at 0) 10 ≡ false → comment_words (drop at text) ≡ comment_words (drop (at + 1) text)
-  comment_next h e = rw (add-one, drop-cons text at 0 h) (comment_on (get_or text at 0) (drop (suc at) text) e)
+comment_next : (text : List ℕ) (at : ℕ) → at < length text → eqb (get_or text at 0) 10 ≡ false
+    → comment_words (drop at text) ≡ comment_words (drop (at + 1) text)
+comment_next text at h e = rw (add-one, drop-cons text at 0 h) (comment_on (get_or text at 0) (drop (suc at) text) e)
 
+module _ (text : List ℕ) (at : ℕ) where
   pub comment_feed : at < length text → get_or text at 0 ≡ 10 → comment_words (drop at text) ≡ words_of (drop at text)
   comment_feed h e = rw (drop-cons text at 0 h, e) (comment_ends (drop (suc at) text))
 
@@ -35,14 +40,43 @@ module _ (text : List ℕ) (at : ℕ) where
   pub separator_words : at < length text → separates (get_or text at 0) ≡ true → words_of (drop at text) ≡ words_of (drop (at + 1) text)
   separator_words h e = rw (add-one, drop-cons text at 0 h) (past_separator (get_or text at 0) (drop (suc at) text) e)
 
--- ---- a word, byte by byte
-pub run_on : (text : List ℕ) (from at : ℕ) → ((j : ℕ) → from ≤ j → j < at → ends (get_or text j 0) ≡ false) → ends (get_or text at 0) ≡ false
-    → (j : ℕ) → from ≤ j → j < at + 1 → ends (get_or text j 0) ≡ false
-run_on text from at w e j a b =
+  -- from `at` on no line feed stands before n bytes more
+  pub comment_run : (n : ℕ) → at + n ≤ length text → ((k : ℕ) → k < n → eqb (get_or (drop at text) k 0) 10 ≡ false)
+      → comment_words (drop at text) ≡ comment_words (drop (at + n) text)
+  comment_run zero l h = let q : at + 0 ≡ at = omega arith in rw q
+  comment_run (suc n) l h =
+      let q : at + n + 1 ≡ at + suc n = omega arith in
+      comment_run n (omega arith) (λ k m. h k (omega arith))
+      ∙ rw q at (comment_next text (at + n) (omega arith) (ap (λ b. eqb b 10) (sym (get_or-drop at text n 0)) ∙ h n (omega arith)))
+
+-- ---- the first byte that passes a test
+pub none_passes : (p : ℕ → Bool) (xs : List ℕ) → position p xs ≡ None → (k : ℕ) → k < length xs → p (get_or xs k 0) ≡ false
+none_passes p xs e k h =
     ⊎_elim
-    (λ h. w j a (ltb-true j at h))
-    (λ h. let q : at ≡ j = omega (arith, ltb-false j at h) in ap (λ (k : ℕ). ends (get_or text k 0)) (sym q) ∙ e)
-    (ways (ltb j at))
+    (λ t. absurd (none-some (position_or_len p xs) (sym e ∙ rw t)))
+    (λ f. fails_before_first p xs k 0 (omega (arith, ltb-false (position_or_len p xs) (length xs) f)))
+    (ways (ltb (position_or_len p xs) (length xs)))
+
+-- ---- a word, by the first byte that ends it
+module _ (text : List ℕ) (from n : ℕ) (within : from ≤ length text)
+    (before : (k : ℕ) → k < n → ends (get_or (drop from text) k 0) ≡ false) where
+  run_to : (to : ℕ) → to ≡ from + n → (j : ℕ) → from ≤ j → j < to → ends (get_or text j 0) ≡ false
+  run_to to q j a b =
+      let e : from + (j - from) ≡ j = omega arith in
+      rw e at (ap ends (sym (get_or-drop from text (j - from) 0)) ∙ before (j - from) (omega arith))
+
+  pub span_to : n < length (drop from text) → ends (get_or (drop from text) n 0) ≡ true → WordSpan text from (from + n)
+  span_to l e =
+      record {
+        forward = omega arith;
+        inside = omega (arith, length-drop from text);
+        whole = run_to (from + n) refl;
+        stops = λ h. ap ends (sym (get_or-drop from text n 0)) ∙ e;
+      }
+
+  pub span_whole : n ≡ length (drop from text) → WordSpan text from (length text)
+  span_whole q =
+      record { forward = within; inside = omega arith; whole = run_to (length text) (omega (arith, length-drop from text)); stops = λ h. absurd (omega arith) }
 
 -- ---- moving on
 -- to a place before the same word
@@ -66,14 +100,6 @@ same text m n c e b = subst (λ (k : ℕ). Before text k c) e b
 
 pub same_at : (text : List ℕ) (m n : ℕ) (c : Cursor) → m ≡ n → At text m c → At text n c
 same_at text m n c e a = subst (λ (k : ℕ). At text k c) e a
-
-pub ends_separator : (b : ℕ) → separates b ≡ true → true ≡ ends b
-unfolding ends
-ends_separator b e = sym (or_left (separates b) (eqb b 35) e)
-
-pub ends_hash : (b : ℕ) → b ≡ 35 → true ≡ ends b
-unfolding ends
-ends_hash b e = sym (or_right (separates b) (eqb b 35) (eq-eqb b 35 e))
 
 pub ends_none : (b : ℕ) → separates b ≡ false → (b ≡ 35 → ⊥) → ends b ≡ false
 unfolding ends

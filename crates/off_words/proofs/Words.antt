@@ -1,6 +1,8 @@
 -- Words at the front of a text: a separator and a comment are passed over, and a run of other bytes up to one that ends it is the first word.
 use mathlib.Core.Path.{◌≡◌, refl, sym, ap, ◌∙◌, subst}
-use mathlib.Core.Bool.{true, false}
+use mathlib.Core.Bool.{Bool, true, false, ◌&&◌}
+use lib.Pointwise.{pointwise}
+use Rattle.std.proofs.Math.Bool.{and-true}
 use mathlib.Core.Logic.{⊎_elim}
 use mathlib.Core.List.{List, [], ◌∷◌}
 use Prim.Native.Nat.{ℕ, zero, suc, ◌+◌, ◌-◌, ◌<◌, ◌≤◌}
@@ -8,11 +10,24 @@ use native.Mathlib.Omega.{arith}
 use lib.Dec.{eqb, ltb}
 use lib.ListN.{length, get_or, take, drop, drop_of_length-le}
 use lib.Seq.{drop-cons}
-use borrow.Author.Tests.{eqb-true, ltb-true, ltb-false}
+use borrow.Author.Tests.{eqb-true, ne_eqb, ltb-true, ltb-false}
 use Rattle.mesh.proofs.Scans.{ways, clash}
 use Rattle.mesh.proofs.Ranges.{none_left, none_right}
-use Rattle.paper.specs.Off.{separates, comments, uncommented, pieces_of, filled, words_of}
+use Rattle.paper.specs.Off.{separates, comments, uncommented, pieces_of, filled, words_of, is_off}
 use Rattle.off_words.specs.Cursor.{ends, comment_words, WordSpan}
+
+none : (b : Bool) → b && false ≡ false
+none true = refl
+none false = refl
+
+-- ---- the word OFF
+pub off_bytes : (word : List ℕ) → pointwise eqb word (79 ∷ (70 ∷ (70 ∷ []))) ≡ is_off word
+unfolding is_off
+off_bytes [] = refl
+off_bytes (a ∷ []) = none (eqb a 79)
+off_bytes (a ∷ (b ∷ [])) = rw (none (eqb b 70)) (none (eqb a 79))
+off_bytes (a ∷ (b ∷ (c ∷ []))) = rw (and-true (eqb c 70))
+off_bytes (a ∷ (b ∷ (c ∷ (d ∷ word)))) = rw (ne_eqb (length (a ∷ (b ∷ (c ∷ (d ∷ word))))) 3 (λ e. omega arith), none (eqb c 70), none (eqb b 70)) (none (eqb a 79))
 
 -- ---- single bytes
 hash_apart : (b : ℕ) → separates b ≡ true → eqb b 35 ≡ false

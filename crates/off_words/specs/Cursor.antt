@@ -1,9 +1,8 @@
 -- Where a cursor stands in a text, and what is read there.
-use Rattle.std.specs.Prelude.{◌≡◌, Bool, true, false, ◌||◌, List, [], ℕ, ◌+◌, ◌<◌, ◌≤◌, eqb, length, get_or, drop}
+use Rattle.std.specs.Prelude.{◌≡◌, Bool, true, false, ◌||◌, Option, Some, None, List, [], ℕ, ◌+◌, ◌<◌, ◌≤◌, eqb, length, get_or, drop}
 use Rattle.paper.specs.Off.{separates, uncommented, pieces_of, filled, words_of, is_number, value_of, is_off}
 use Rattle.off_words.specs.declared.Cursor.{Cursor}
 use Rattle.off_words.specs.declared.Number.{Number}
-use Rattle.off_words.specs.declared.Mark.{Mark}
 
 -- a byte that ends a word: a separator, or the # of a comment
 unfoldable pub ends : ℕ → Bool
@@ -32,13 +31,23 @@ pub record WordSpan (text : List ℕ) (from to : ℕ) : Type 0 where
   pub whole : (j : ℕ) → from ≤ j → j < to → ends (get_or text j 0) ≡ false
   pub stops : to < length text → ends (get_or text to 0) ≡ true
 
--- word n as a number: whether it is there and is one, which, and a cursor before the next word; else the cursor stays before word n
-pub record NumberRead (text : List ℕ) (n : ℕ) (r : Number) : Type 0 where
-  pub ok : r.ok ≡ is_number (get_or (words_of text) n [])
-  pub value : r.ok ≡ true → r.value ≡ value_of (get_or (words_of text) n [])
-  pub next : r.ok ≡ true → Before text (n + 1) r.next
+-- word n is a number: which, and a cursor before the next word
+pub record NumberThere (text : List ℕ) (n : ℕ) (r : Number) : Type 0 where
+  pub is : is_number (get_or (words_of text) n []) ≡ true
+  pub value : r.value ≡ value_of (get_or (words_of text) n [])
+  pub next : Before text (n + 1) r.next
 
--- the first word: whether it is OFF, and then a cursor before the next
-pub record MarkRead (text : List ℕ) (r : Mark) : Type 0 where
-  pub ok : r.ok ≡ is_off (get_or (words_of text) 0 [])
-  pub next : r.ok ≡ true → Before text 1 r.next
+-- word n as a number, if it is there and is one
+abbrev pub NumberRead : List ℕ → ℕ → Option Number → Type 0
+NumberRead text n None = is_number (get_or (words_of text) n []) ≡ false
+NumberRead text n (Some r) = NumberThere text n r
+
+-- the first word is OFF: a cursor before the next
+pub record MarkThere (text : List ℕ) (next : Cursor) : Type 0 where
+  pub is : is_off (get_or (words_of text) 0 []) ≡ true
+  pub next_is : Before text 1 next
+
+-- past the first word, if it is OFF
+abbrev pub MarkRead : List ℕ → Option Cursor → Type 0
+MarkRead text None = is_off (get_or (words_of text) 0 []) ≡ false
+MarkRead text (Some next) = MarkThere text next

@@ -7,25 +7,18 @@ ghost use Rattle.std.specs.Prelude.{◌≡◌, true, ℕ, ◌+◌, ◌<◌, ◌�
 ghost use Rattle.paper.specs.Off.{separates as Off·separates, words_of, is_off};
 ghost use Rattle.off_words.specs.Cursor.{ends, comment_words, Before, At, WordSpan, NumberRead, MarkRead};
 
-// A place in the text, and the number of the word that comes there or after it.
+// A place in the text, and the number of the word that comes there or after it. That it is one of a text stands in each contract (`Before`): a cursor that
+// held its text would promise at each step that it is still the same text, which is no plainer.
 #[derive(Clone, Copy)]
 pub struct Cursor {
     pub at: usize,
     pub word: usize,
 }
 
-// A word as a number, if it is one, and a cursor before the next word.
+// A word as a number, and a cursor before the next word.
 #[derive(Clone, Copy)]
 pub struct Number {
-    pub ok: bool,
     pub value: i32,
-    pub next: Cursor,
-}
-
-// Whether the first word is OFF, and then a cursor before the next word.
-#[derive(Clone, Copy)]
-pub struct Mark {
-    pub ok: bool,
     pub next: Cursor,
 }
 
@@ -37,32 +30,19 @@ fn start(text: &[u8]) -> Cursor
 }
 
 // Space, tab, carriage return and line feed.
+#[tactic(auto, unfolding(paper::specs::Off::separates))]
 fn separates(byte: u8) -> bool
     ensures { result ≡ Off·separates byte }
 {
-    if byte == b' ' {
-        return true;
-    }
-    if byte == b'\t' {
-        return true;
-    }
-    if byte == b'\r' {
-        return true;
-    }
-    byte == b'\n'
+    matches!(byte, b' ' | b'\t' | b'\r' | b'\n')
 }
 
 // Whether a byte ends a word: a separator does, and the # of a comment.
+#[tactic(auto, unfolding(crate::specs::Cursor::ends))]
 fn ends_word(last: u8) -> bool
     ensures { result ≡ ends last }
 {
-    if separates(last) {
-        return true;
-    }
-    if last == b'#' {
-        return true;
-    }
-    false
+    separates(last) || last == b'#'
 }
 
 // Where a comment ends of which `from` is past the #: at its line feed, or at the end of the text.
@@ -70,14 +50,10 @@ fn comment_end(text: &[u8], from: usize) -> usize
     requires { from ≤ length text.now }
     ensures { (from ≤ result) × (result ≤ length text.now) × (comment_words (drop from text.now) ≡ words_of (drop result text.now)) }
 {
-    let mut at = from;
-    while at < text.len() {
-        if text[at] == b'\n' {
-            return at;
-        }
-        at += 1;
+    match text[from..].iter().position(|byte| *byte == b'\n') {
+        Some(before) => from + before,
+        None => text.len(),
     }
-    at
 }
 
 // Where the word ends that has begun before or at `from`.
@@ -85,48 +61,30 @@ fn word_end(text: &[u8], from: usize) -> usize
     requires { from ≤ length text.now }
     ensures { WordSpan text.now from result }
 {
-    let mut at = from;
-    while at < text.len() {
-        if ends_word(text[at]) {
-            return at;
-        }
-        at += 1;
+    match text[from..].iter().position(|byte| ends_word(*byte)) {
+        Some(before) => from + before,
+        None => text.len(),
     }
-    at
 }
 
 // Whether a word is OFF.
 fn is_off(word: &[u8]) -> bool
     ensures { result ≡ is_off word.now }
 {
-    if word.len() != 3 {
-        return false;
-    }
-    if word[0] != b'O' {
-        return false;
-    }
-    if word[1] != b'F' {
-        return false;
-    }
-    word[2] == b'F'
+    word == b"OFF".as_slice()
 }
 
-// The first word.
-pub fn read_mark(text: &[u8]) -> Mark
+// Past the first word, if it is OFF.
+pub fn read_mark(text: &[u8]) -> Option<Cursor>
     ensures { MarkRead text.now result }
 {
     let first = start(text).to_word(text);
     let at = first.at;
     let end = word_end(text, at);
-    if !is_off(&text[at..end]) {
-        return Mark {
-            ok: false,
-            next: first,
-        };
-    }
-    Mark {
-        ok: true,
-        next: first.moved(end, 1),
+    if is_off(&text[at..end]) {
+        Some(first.moved(end, 1))
+    } else {
+        None
     }
 }
 
@@ -168,6 +126,7 @@ impl Cursor {
     {
         let mut c = self;
         let mut at = c.at;
+        // The place jumps over comments.
         while at < text.len() {
             let byte = text[at];
             if byte == b'#' {
@@ -183,28 +142,19 @@ impl Cursor {
         c
     }
 
-    // The next word as a number.
-    pub fn number(self, text: &[u8]) -> Number
+    // The next word as a number, if there is one and it is a number.
+    pub fn number(self, text: &[u8]) -> Option<Number>
         requires { Before text.now self.word self }
         ensures { NumberRead text.now self.word result }
     {
         let first = self.to_word(text);
         let at = first.at;
         let end = word_end(text, at);
-        let ok = crate::digits::is_number(&text[at..end]);
-        if !ok {
-            return Number {
-                ok: false,
-                value: 0,
-                next: first,
-            };
-        }
-        let value = crate::digits::value(&text[at..end]);
-        Number {
-            ok: true,
-            value: value,
+        let value = crate::digits::number(&text[at..end])?;
+        Some(Number {
+            value,
             next: first.moved(end, 1),
-        }
+        })
     }
 
     // Whether there is a next word.

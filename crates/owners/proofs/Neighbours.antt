@@ -1,10 +1,7 @@
--- The corners beside a corner's net, the owner of an edge's point, and one point or none.
-use mathlib.Core.Path.{◌≡◌, sym, ◌∙◌}
+-- The corners beside a corner's net, and the owner of an edge's point.
+use mathlib.Core.Path.{◌≡◌}
 use Prim.Native.Nat.{ℕ, ◌<◌, min}
 use native.Mathlib.Omega.{arith}
-use lib.Dec.{eqb}
-use borrow.Author.Tests.{eq-eqb, ne_eqb}
-use Rattle.paper.specs.Scan.{pick_n}
 use Rattle.paper.specs.Mesh.{Mesh, corner_count}
 use Rattle.paper.specs.Corners.{previous}
 use Rattle.paper.specs.Links.{link, reverse}
@@ -39,10 +36,3 @@ module _ (M : Mesh) (ok : Accepted M) (c : ℕ) (h : c < corner_count M) where
 pub edge_lower : (M : Mesh) (c : ℕ) → edge_owner M c ≡ min c (reverse M.sides M.corners c)
 unfolding edge_owner
 edge_lower M c = pick_less c (reverse M.sides M.corners c) c (reverse M.sides M.corners c) (λ l e. omega arith) (λ l e. omega arith)
-
--- ---- one or none
-pub one_of : (c d e : ℕ) → d ≡ e → c ≡ d → 1 ≡ pick_n (eqb c e) 1 0
-one_of c d e p q = rw (eq-eqb c e (q ∙ p))
-
-pub none_of : (c d e : ℕ) → d ≡ e → (c ≡ d → ⊥) → 0 ≡ pick_n (eqb c e) 1 0
-none_of c d e p n = rw (ne_eqb c e (λ q. n (q ∙ sym p)))

@@ -1,11 +1,10 @@
 -- Laws of the functions over the table of corners: where steps lead, the owners of a corner's ends, the larger level, the lowest corners.
 use mathlib.Core.Path.{◌≡◌, sym, ap, ◌∙◌}
 use mathlib.Core.List.{List}
-use Prim.Native.Nat.{ℕ, ◌+◌, ◌*◌, ◌≤◌, ◌<◌}
+use Prim.Native.Nat.{ℕ, ◌+◌, ◌*◌, ◌≤◌, ◌<◌, min, max}
 use native.Mathlib.Omega.{arith}
-use lib.ListN.{length, get_or, set}
-use lib.Seq.{get_or-set_same, get_or-set_other}
-use borrow.Author.Tests.{lt-ltb, le-ltb, eq-eqb, ne_eqb}
+use lib.ListN.{length, get_or}
+use borrow.Author.Tests.{eq-eqb, ne_eqb}
 use Rattle.paper.specs.Mesh.{Mesh, corner_count}
 use Rattle.paper.specs.Corners.{sum_of, first_of, next, previous}
 use Rattle.paper.specs.Links.{vertex_of, link, reverse, names, lowest}
@@ -19,8 +18,8 @@ use Rattle.mesh.proofs.Scans.{first_at}
 use Rattle.mesh.proofs.Accepted.{sound_of, closed_of}
 use Rattle.mesh.proofs.Theorems.{manifold}
 use Rattle.owners.specs.Corners.{Here, Lowests}
-use Rattle.strips.proofs.Cases.{test_equal}
-use Rattle.owners.proofs.Neighbours.{reverse_is}
+use Rattle.strips.proofs.Cases.{pick_less}
+use Rattle.owners.proofs.Neighbours.{reverse_is, edge_lower}
 
 -- ---- steps
 module _ (M : Mesh) (table : List ℕ) (c : ℕ) (h : Here M table c) where
@@ -62,13 +61,8 @@ module _ (M : Mesh) (table : List ℕ) (c d e : ℕ) (h : Here M table c) (a : L
   to_reverse =
       to_previous_lem M table d (here_link M table c h d a) e b ∙ ap (previous M.sides) (to_link_lem M table c h d a) ∙ reverse_is M h.accepted c h.below
 
-  pub edge_this : c < e → c ≡ edge_owner M c
-  unfolding edge_owner
-  edge_this l = rw (← to_reverse, lt-ltb c e l)
-
-  pub edge_that : e ≤ c → e ≡ edge_owner M c
-  unfolding edge_owner
-  edge_that l = rw (← to_reverse, le-ltb c e l)
+  pub edge_min : min c e ≡ edge_owner M c
+  edge_min = ap (min c) to_reverse ∙ sym (edge_lower M c)
 
 -- ---- the face
 pub face_first : (M : Mesh) (table : List ℕ) (c d : ℕ) → Here M table c
@@ -83,31 +77,15 @@ module _ (M : Mesh) (levels : List ℕ) (c : ℕ) (s : Side) (d n m : ℕ) (e : 
   there : m ≡ level levels (beside M c s)
   there = q ∙ ap (level levels) e
 
-  pub segments_there : n < m → m ≡ segments M levels c s
+  pub segments_max : max n m ≡ segments M levels c s
   unfolding segments
-  segments_there l = rw (← p, ← there, lt-ltb n m l)
-
-  pub segments_here : m ≤ n → n ≡ segments M levels c s
-  unfolding segments
-  segments_here l = rw (← p, ← there, le-ltb n m l)
+  segments_max = rw (← p, ← there) (pick_less n m m n (λ l e. omega (arith, e)) (λ l e. omega (arith, e)))
 
 -- ---- the lowest corner of each vertex, from the last corner down to c
 pub record Low (corners low : List ℕ) (c e : ℕ) : Type 0 where
   pub from : c ≤ get_or low (vertex_of corners e) 0
   pub to : get_or low (vertex_of corners e) 0 ≤ e
   pub same : vertex_of corners (get_or low (vertex_of corners e) 0) ≡ vertex_of corners e
-
-module _ (corners low : List ℕ) (c u : ℕ) (e : u ≡ vertex_of corners c) (h : u < length low)
-    (old : (e : ℕ) → c + 1 ≤ e → e < length corners → Low corners low (c + 1) e) where
-  pub low_step : (j : ℕ) → c ≤ j → j < length corners → Low corners (set low u c) c j
-  low_step j a b =
-      test_equal (vertex_of corners j) u
-      (λ q v. let g : get_or (set low u c) (vertex_of corners j) 0 ≡ c = rw v (get_or-set_same low u c 0 h) in
-      record { from = omega (arith, g); to = omega (arith, g); same = rw g (sym e ∙ sym v) })
-      (λ q n. let g : get_or (set low u c) (vertex_of corners j) 0 ≡ get_or low (vertex_of corners j) 0 = get_or-set_other low u (vertex_of corners j) c 0 n in
-      let d : c ≡ j → ⊥ = λ z. n (ap (vertex_of corners) (sym z) ∙ sym e) in
-      let o = old j (omega (arith, d)) b in
-      record { from = omega (arith, g, o.from); to = omega (arith, g, o.to); same = rw g o.same })
 
 pub lows_of : (corners low : List ℕ) → Named corners (length low) → ((e : ℕ) → 0 ≤ e → e < length corners → Low corners low 0 e) → Lowests corners low
 unfolding lowest names

@@ -17,13 +17,7 @@ pub fn level_at(levels: &[u8], c: usize) -> usize
     requires { c < length levels.now }
     ensures { result ≡ level levels.now c }
 {
-    wide8(levels[c])
-}
-
-fn wide8(x: u8) -> usize
-    ensures { result ≡ x }
-{
-    x as usize
+    usize::from(levels[c])
 }
 
 // The corner beside a side of a corner's net.
@@ -57,10 +51,7 @@ pub fn segments_at(table: &[u16], levels: &[u8], c: usize, side: usize) -> usize
     let d = beside(table, c, side);
     let n = level_at(levels, c);
     let m = level_at(levels, d);
-    if n < m {
-        return m;
-    }
-    n
+    n.max(m)
 }
 
 // The corner that has the point of a corner's vertex.
@@ -68,8 +59,8 @@ pub fn vertex_owner(corners: &[u16], low: &[u16], c: usize) -> usize
     requires { Lowests corners.now low.now × (c < length corners.now) }
     ensures { result ≡ lowest corners.now (vertex_of corners.now c) }
 {
-    let u = mesh::wide(corners[c]);
-    mesh::wide(low[u])
+    let u = usize::from(corners[c]);
+    usize::from(low[u])
 }
 
 // The corner that has the point of its leaving edge.
@@ -80,11 +71,7 @@ pub fn edge_owner(table: &[u16], c: usize) -> usize
     let here = Walker { corner: c };
     let there = here.linked(table);
     let to = there.previous(table);
-    let d = to.corner;
-    if c < d {
-        return c;
-    }
-    d
+    c.min(to.corner)
 }
 
 // The corner that has the point of its face.
@@ -100,10 +87,8 @@ pub fn fill_lowest(corners: &[u16], low: &mut [u16])
     requires { Named corners.now (length low.old) × (length corners.now ≤ most_corners) }
     ensures { Lowests corners.now low.new }
 {
-    let mut c = corners.len();
-    while 0 < c {
-        c -= 1;
-        let u = mesh::wide(corners[c]);
+    for c in (0..corners.len()).rev() {
+        let u = usize::from(corners[c]);
         low[u] = c as u16;
     }
 }
@@ -113,31 +98,19 @@ pub fn own_vertex(corners: &[u16], low: &[u16], c: usize) -> usize
     requires { Lowests corners.now low.now × (c < length corners.now) }
     ensures { (result ≤ 1) × (result ≡ pick_n (eqb c (lowest corners.now (vertex_of corners.now c))) 1 0) }
 {
-    let d = vertex_owner(corners, low, c);
-    if c == d {
-        return 1;
-    }
-    0
+    usize::from(c == vertex_owner(corners, low, c))
 }
 
 pub fn own_edge(table: &[u16], c: usize) -> usize
     requires { Place table.now c }
     ensures { (result ≤ 1) × ((M : Mesh) → Here M table.now c → result ≡ pick_n (eqb c (edge_owner M c)) 1 0) }
 {
-    let d = edge_owner(table, c);
-    if c == d {
-        return 1;
-    }
-    0
+    usize::from(c == edge_owner(table, c))
 }
 
 pub fn own_face(table: &[u16], c: usize) -> usize
     requires { Place table.now c }
     ensures { (result ≤ 1) × ((M : Mesh) → Here M table.now c → result ≡ pick_n (eqb c (face_owner M c)) 1 0) }
 {
-    let d = face_owner(table, c);
-    if c == d {
-        return 1;
-    }
-    0
+    usize::from(c == face_owner(table, c))
 }

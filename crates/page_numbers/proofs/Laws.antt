@@ -1,27 +1,19 @@
--- Where a page's numbers stand.
-use mathlib.Core.Path.{◌≡◌, refl, sym, ap, ◌∙◌}
-use mathlib.Core.List.{List}
-use Prim.Native.Nat.{ℕ, suc, ◌+◌, ◌-◌, ◌<◌, ◌≤◌}
-use native.Mathlib.Omega.{arith}
-use lib.ListN.{length, get_or, replicate, length-append, get_or-append}
-use lib.Seq.{get_or-append-add}
+-- Where a page's numbers stand: three, and after them the refusals and the misses.
+use Rattle.std.proofs.Common.{◌≡◌, sym, ◌∙◌, List, ◌∷◌, ◌++◌, ℕ, ◌+◌, ◌≤◌, arith, length, get_or, take, drop, length-drop}
+use Rattle.std.proofs.lemmas.List.{length-take-le, get_or-take, get_or-drop, take_at, drop_at, drop_all, append-nil}
 use Rattle.paper.specs.Report.{lines, conditions, numbers_on}
+use Rattle.paper.specs.Scan.{values_from}
 use Rattle.paper.specs.declared.Page.{Page}
-use Rattle.mesh.proofs.Fills.{Filled, filled_whole}
 use Rattle.pages.proofs.Lists.{values_of}
 
--- ---- a page's numbers
-module _ (P : Page) (r : length P.refusals ≡ lines) (m : length P.misses ≡ conditions) where
-  pub number_line : (i : ℕ) → 3 ≤ i → i < 17 → get_or P.refusals (i - 3) 0 ≡ get_or (numbers_on P) i 0
-  number_line i l h =
-      sym (get_or-append P.refusals P.misses 0 (i - 3) (omega arith))
-      ∙ ap (λ (k : ℕ). get_or (numbers_on P) k 0) (let e : suc (suc (suc (i - 3))) ≡ i = omega arith in e)
+-- a part of a list, number by number
+pub part_read : (numbers : List ℕ) (at n : ℕ) → at + n ≤ length numbers → take n (drop at numbers) ≡ values_from (λ l. get_or numbers (at + l) 0) 0 n
+part_read numbers at n h =
+    sym (values_of (λ l. get_or numbers (at + l) 0) (take n (drop at numbers)) n (length-take-le n (drop at numbers) (omega (arith, length-drop at numbers)))
+    (λ i b. sym (get_or-take n (drop at numbers) i 0 b ∙ get_or-drop at numbers i 0)))
 
-  pub number_miss : (i : ℕ) → 17 ≤ i → get_or P.misses (i - 17) 0 ≡ get_or (numbers_on P) i 0
-  number_miss i l =
-      sym (get_or-append-add P.refusals P.misses (i - 17) 0)
-      ∙ ap (λ (k : ℕ). get_or (numbers_on P) k 0) (let e : suc (suc (suc (length P.refusals + (i - 17)))) ≡ i = omega arith in e)
-
-  pub page_numbers : (i : ℕ) (new : List ℕ) → i ≡ 21 → Filled (λ k. get_or (numbers_on P) k 0) (replicate 21 0) i new → new ≡ numbers_on P
-  page_numbers i new e h =
-      filled_whole _ _ new i e h ∙ values_of _ (numbers_on P) 21 (omega (arith, length-append P.refusals P.misses)) (λ k l. refl)
+-- a page's numbers, when its two lists were copied over zeros
+pub parts_written : (P : Page) (r m zeros : List ℕ) → length P.refusals ≡ lines → length zeros ≡ conditions → r ≡ P.refusals → m ≡ P.misses
+    → P.meshes ∷ P.corners ∷ P.borders ∷ (take 14 (r ++ zeros) ++ (m ++ drop 4 (drop 14 (r ++ zeros)))) ≡ numbers_on P
+parts_written P r m zeros e z f g =
+    rw (f, g, take_at P.refusals zeros 14 e, drop_at P.refusals zeros 14 e, drop_all 4 zeros (omega arith), append-nil)

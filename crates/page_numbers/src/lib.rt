@@ -16,8 +16,10 @@ const FIRST_MISS: usize = FIRST_LINE + LINES;
 pub fn read(numbers: &[u64; NUMBERS_ON_PAGE]) -> Page
     ensures { result ≡ page_in numbers.now }
 {
-    let refusals = read_lines(numbers);
-    let misses = read_misses(numbers);
+    let mut refusals = [0u64; LINES];
+    refusals.copy_from_slice(&numbers[FIRST_LINE..FIRST_MISS]);
+    let mut misses = [0u64; CONDITIONS];
+    misses.copy_from_slice(&numbers[FIRST_MISS..]);
     Page {
         meshes: numbers[0],
         corners: numbers[1],
@@ -27,61 +29,16 @@ pub fn read(numbers: &[u64; NUMBERS_ON_PAGE]) -> Page
     }
 }
 
-fn read_lines(numbers: &[u64; NUMBERS_ON_PAGE]) -> [u64; LINES]
-    ensures { result ≡ values_from (λ l. get_or numbers.now (3 + l) 0) 0 lines }
-{
-    let mut refusals = [0u64; LINES];
-    let mut l = 0;
-    while l < LINES {
-        refusals[l] = numbers[FIRST_LINE + l];
-        l += 1;
-    }
-    refusals
-}
-
-fn read_misses(numbers: &[u64; NUMBERS_ON_PAGE]) -> [u64; CONDITIONS]
-    ensures { result ≡ values_from (λ j. get_or numbers.now (3 + lines + j) 0) 0 conditions }
-{
-    let mut misses = [0u64; CONDITIONS];
-    let mut j = 0;
-    while j < CONDITIONS {
-        misses[j] = numbers[FIRST_MISS + j];
-        j += 1;
-    }
-    misses
-}
-
 // The numbers of the page.
 pub fn numbers(page: Page) -> [u64; NUMBERS_ON_PAGE]
     requires { (length page.refusals ≡ lines) × (length page.misses ≡ conditions) }
     ensures { result ≡ numbers_on page }
 {
     let mut new = [0u64; NUMBERS_ON_PAGE];
-    let mut i = 0;
-    while i < NUMBERS_ON_PAGE {
-        new[i] = number_at(page, i);
-        i += 1;
-    }
+    new[0] = page.meshes;
+    new[1] = page.corners;
+    new[2] = page.borders;
+    new[FIRST_LINE..FIRST_MISS].copy_from_slice(&page.refusals);
+    new[FIRST_MISS..].copy_from_slice(&page.misses);
     new
-}
-
-fn number_at(page: Page, i: usize) -> u64
-    requires { (i < 21) × (length page.refusals ≡ lines) × (length page.misses ≡ conditions) }
-    ensures { result ≡ get_or (numbers_on page) i 0 }
-{
-    if i == 0 {
-        return page.meshes;
-    }
-    if i == 1 {
-        return page.corners;
-    }
-    if i == 2 {
-        return page.borders;
-    }
-    if i < FIRST_MISS {
-        let refusals = page.refusals;
-        return refusals[i - FIRST_LINE];
-    }
-    let misses = page.misses;
-    misses[i - FIRST_MISS]
 }

@@ -2,5 +2,4 @@ pub mod Joins
 pub mod Digits
 pub mod Numbers
 pub mod Pages
-pub mod Beginnings
 pub mod Returns

@@ -1,6 +1,6 @@
 -- A number read from a line, digit by digit, and the space before it.
 use mathlib.Core.Path.{◌≡◌, refl, sym, ap, subst, ◌∙◌}
-use mathlib.Core.Bool.{true, false, true≢false}
+use Rattle.std.specs.Prelude.{Some, None}
 use mathlib.Core.List.{List, [], ◌∷◌, ◌++◌, append_assoc}
 use mathlib.Core.Logic.{◌⊎◌, inl, inr, ⊎_elim}
 use Prim.Native.Nat.{ℕ, zero, suc, ◌+◌, ◌*◌, ◌-◌, ◌<◌, ◌≤◌}
@@ -8,7 +8,6 @@ use native.Mathlib.Numerals.{add-one}
 use native.Mathlib.Omega.{arith}
 use lib.ListN.{length, drop, get_or, length-append, drop_of_length-le}
 use lib.Seq.{drop-cons}
-use Rattle.mesh.proofs.Scans.{ways}
 use Rattle.page_text.specs.Reading.{Digit, Digits, NoDigit, value_after, DigitsPassed, DigitsRead, SpacedRead}
 use Rattle.page_text.specs.declared.ReadNumber.{ReadNumber}
 use Rattle.page_text.proofs.Digits.{one_digit_more, value_append, value_grows, longest, same_split}
@@ -59,31 +58,24 @@ module _ (line : List ℕ) (from at value : ℕ) (h : at < length line) (d : Dig
   }
 
   -- a number to which no digit can be appended, and the digit after it
-  pub digits_large : (r : ReadNumber) → r.ok ≡ false → r.end ≡ 0 → 1844674407370955160 < value → DigitsRead line from r
-  digits_large r e z m = record {
-    found = λ t. absurd (true≢false (sym t ∙ e));
-    ends = λ t. absurd (true≢false (sym t ∙ e));
+  pub digits_large : 1844674407370955160 < value → DigitsRead line from None
+  digits_large m = record {
+    found = tt;
     none = λ f digits rest q g w.
         let l = longest one_more_lem digits (drop (suc at) line) rest digits_more w (sym q ∙ split_more) in
         omega (arith, value_more, value_grows (value_after 0 one_more_lem) l.0, ap (value_after 0) l.1 ∙ value_append 0 one_more_lem l.0);
-    nowhere = λ f. z;
   }
 
-pub digits_found : (line : List ℕ) (from : ℕ) (r : ReadNumber) → r.ok ≡ true → DigitsPassed line from r.end r.value → NoDigit (drop r.end line)
-    → DigitsRead line from r
-digits_found line from r t p e = record {
-  found = λ _. p;
-  ends = λ _. e;
-  none = λ f. absurd (true≢false (sym t ∙ f));
-  nowhere = λ f. absurd (true≢false (sym t ∙ f));
-}
+some_none : {A : Type 0} {x : A} → Some x ≡ None → ⊥
+some_none e = cc
+
+pub digits_found : (line : List ℕ) (from : ℕ) (r : ReadNumber) → DigitsPassed line from r.end r.value → NoDigit (drop r.end line)
+    → DigitsRead line from (Some r)
+digits_found line from r p e = record { found = (p, e); none = λ f. absurd (some_none f) }
 
 -- ---- a space, and digits
-pub number_past : (line : List ℕ) (at : ℕ) (r : ReadNumber) → r.ok ≡ false → length line ≤ at → SpacedRead line at r
-number_past line at r e h = record {
-  found = λ t. absurd (true≢false (sym t ∙ e));
-  none = λ f digits rest n q d w. no_bytes (sym (drop_of_length-le line h) ∙ q);
-}
+pub number_past : (line : List ℕ) (at : ℕ) → length line ≤ at → SpacedRead line at None
+number_past line at h = record { found = tt; none = λ f digits rest n q d w. no_bytes (sym (drop_of_length-le line h) ∙ q) }
   where
     no_bytes : {x : ℕ} {l : List ℕ} → [] ≡ x ∷ l → ⊥
     no_bytes q = let z : ◌≡◌ {A = ℕ} 0 1 = cc in omega arith
@@ -95,16 +87,19 @@ module _ (line : List ℕ) (at : ℕ) (h : at < length line) where
   later : (x : ℕ) (l : List ℕ) → drop at line ≡ x ∷ l → drop (at + 1) line ≡ l
   later x l q = let e = drop-cons line at 0 h in let f : drop (suc at) line ≡ l = cc in ap (λ (n : ℕ). drop n line) (add-one at) ∙ f
 
-  pub number_other : (r : ReadNumber) → r.ok ≡ false → (get_or line at 0 ≡ 32 → ⊥) → SpacedRead line at r
-  number_other r e n = record {
-    found = λ t. absurd (true≢false (sym t ∙ e));
-    none = λ f digits rest k q d w. n (first 32 (digits ++ rest) q);
+  pub number_other : (get_or line at 0 ≡ 32 → ⊥) → SpacedRead line at None
+  number_other n = record { found = tt; none = λ f digits rest k q d w. n (first 32 (digits ++ rest) q) }
+
+  pub number_large : DigitsRead line (at + 1) None → SpacedRead line at None
+  number_large d = record {
+    found = tt;
+    none = λ f digits rest k q g w. let l = d.none refl digits rest (later 32 (digits ++ rest) q) g.digits w in omega (arith, l, g.value, g.within);
   }
 
-  module _ (space : get_or line at 0 ≡ 32) (s : ReadNumber) (d : DigitsRead line (at + 1) s) where
-    pub number_here : (s.end ≡ at + 1 → ⊥) → SpacedRead line at s
-    number_here n = record {
-      found = λ t. let p = d.found t in record {
+  module _ (s : ReadNumber) (d : DigitsRead line (at + 1) (Some s)) where
+    pub number_here : get_or line at 0 ≡ 32 → (s.end ≡ at + 1 → ⊥) → SpacedRead line at (Some s)
+    number_here space n = let p = d.found.0 in record {
+      found = record {
         text = p.passed;
         split = drop-cons line at 0 h ∙ ap (λ (x : ℕ). x ∷ drop (suc at) line) space
             ∙ ap (λ (l : List ℕ). 32 ∷ l) (ap (λ (k : ℕ). drop k line) (sym (add-one at)) ∙ p.split);
@@ -115,24 +110,21 @@ module _ (line : List ℕ) (at : ℕ) (h : at < length line) where
           value = p.value_is;
           within = p.within;
         };
-        ends = d.ends t;
+        ends = d.found.1;
         inside = p.inside;
       };
-      none = λ f digits rest k q g w. let l = d.none f digits rest (later 32 (digits ++ rest) q) g.digits w in omega (arith, l, g.value, g.within);
+      none = λ f. absurd (some_none f);
     }
       where
         nothing_or_some : (n : ℕ) → (n ≡ 0) ⊎ (0 < n)
         nothing_or_some zero = inl refl
         nothing_or_some (suc n) = inr (omega arith)
 
-    pub number_none : (r : ReadNumber) → r.ok ≡ false → s.end ≡ at + 1 → SpacedRead line at r
-    number_none r e z = record {
-      found = λ t. absurd (true≢false (sym t ∙ e));
-      none = λ f digits rest k q g w. ⊎_elim
-          (λ (t : s.ok ≡ true). let p = d.found t in
-          let one = same_split p.passed digits (drop s.end line) rest p.digits g.digits (d.ends t) w
-          (sym p.split ∙ later 32 (digits ++ rest) q) in
-          omega (arith, ap length one.0, g.some, p.onward))
-          (λ t. omega (arith, d.nowhere t))
-          (ways s.ok);
+    pub number_none : s.end ≡ at + 1 → SpacedRead line at None
+    number_none z = record {
+      found = tt;
+      none = λ f digits rest k q g w.
+          let p = d.found.0 in
+          let one = same_split p.passed digits (drop s.end line) rest p.digits g.digits d.found.1 w (sym p.split ∙ later 32 (digits ++ rest) q) in
+          omega (arith, ap length one.0, g.some, p.onward);
     }

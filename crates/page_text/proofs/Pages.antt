@@ -1,16 +1,19 @@
 -- Numbers read one after the other from a line: what was read stands in the list, and each list of numbers that the line has agrees with it.
 use mathlib.Core.Path.{◌≡◌, refl, sym, ap, subst, ◌∙◌}
-use mathlib.Core.Bool.{false, true≢false}
+use Rattle.std.specs.Prelude.{Some, None}
+use Rattle.std.specs.Bool.{then_some}
+use mathlib.Core.Bool.{true≢false}
+use mathlib.Core.Logic.{⊎_elim}
+use lib.Dec.{eqb}
+use borrow.Author.Tests.{eqb-true, eq-eqb}
+use Rattle.mesh.proofs.Scans.{ways}
 use mathlib.Core.List.{List, [], ◌∷◌, ◌++◌, append_assoc, append-nil}
 use Prim.Native.Nat.{ℕ, suc, ◌+◌, ◌<◌, ◌≤◌}
 use native.Mathlib.Numerals.{add-one}
 use native.Mathlib.Omega.{arith}
-use lib.Dec.{eqb}
 use lib.ListN.{length, take, drop, get_or, set, length-drop, drop_of_length-le}
 use lib.Seq.{drop-cons, take-suc, take-suc-set, take_all}
-use borrow.Author.Tests.{eqb-true, eq-eqb}
-use Rattle.page_text.specs.Reading.{NoDigit, value_after, Spaced, PageRead, SpacedFound, SpacedRead}
-use Rattle.page_text.specs.declared.ReadNumber.{ReadNumber}
+use Rattle.page_text.specs.Reading.{NoDigit, value_after, Spaced, PageForm, PageRead, SpacedFound, SpacedRead}
 use Rattle.page_text.proofs.Digits.{same_split}
 
 -- after a number the line ends, or a space follows
@@ -62,31 +65,43 @@ module _ (line : List ℕ) (i at : ℕ) (numbers : List ℕ) (h : i < 21) (t : T
       tail : {x y : ℕ} {a b : List ℕ} → x ∷ a ≡ y ∷ b → a ≡ b
       tail e = cc
 
-  pub page_none : (r : ReadNumber) (left : List ℕ) → r.ok ≡ false → SpacedRead line at r → PageRead line false left
+  pub page_none : SpacedRead line at None → PageRead line None
   unfolding Spaced
-  page_none r left e n = record {
-    says = λ f. absurd (true≢false (sym f));
+  page_none n = record {
+    says = tt;
     said = λ others p.
         let o = whole others p.all p.form in
-        absurd (n.none e o.0 o.1 (get_or others i 0) o.2 o.3 (spaced_ended o.1 (drop (suc i) others) o.4));
+        absurd (n.none refl o.0 o.1 (get_or others i 0) o.2 o.3 (spaced_ended o.1 (drop (suc i) others) o.4));
   }
 
-pub page_end : (line : List ℕ) (i at : ℕ) (numbers : List ℕ) → 21 ≤ i → i ≤ 21 → length numbers ≡ 21 → Taken line i at numbers
-    → PageRead line (eqb at (length line)) numbers
-unfolding Spaced
-page_end line i at numbers h m l t = record {
-  says = λ e.
-      let q = eqb-true at (length line) e in
-      record {
-        all = l;
-        form = subst (Spaced (drop 4 line)) (append-nil (take i numbers) ∙ take_all i numbers (omega arith))
-            (t.sound [] (drop_of_length-le line {i = at} (omega arith)));
-      };
-  said = λ others p.
+-- all 21 were read
+module _ (line : List ℕ) (i at : ℕ) (numbers : List ℕ) (h : 21 ≤ i) (m : i ≤ 21) (l : length numbers ≡ 21) (t : Taken line i at numbers) where
+  -- another list that the line has is this one, and the line ends there
+  ended : (others : List ℕ) → PageForm line others → (at ≡ length line) × (numbers ≡ others)
+  unfolding Spaced
+  ended others p =
       let c = t.complete others p.all p.form in
       let no_more : drop i others ≡ [] = drop_of_length-le others {i = i} (omega (arith, p.all)) in
       let nothing : drop at line ≡ [] = subst (Spaced (drop at line)) no_more c.0 in
       let inside = t.inside (omega arith) in
       let q : at ≡ length line = omega (arith, ap length nothing, length-drop at line) in
-      (eq-eqb at (length line) q, sym (take_all i numbers (omega arith)) ∙ c.1 ∙ take_all i others (omega (arith, p.all)));
-}
+      (q, sym (take_all i numbers (omega arith)) ∙ c.1 ∙ take_all i others (omega (arith, p.all)))
+
+  page_whole : at ≡ length line → PageRead line (Some numbers)
+  unfolding Spaced
+  page_whole q = record {
+    says = record {
+      all = l;
+      form = subst (Spaced (drop 4 line)) (append-nil (take i numbers) ∙ take_all i numbers (omega arith))
+          (t.sound [] (drop_of_length-le line {i = at} (omega arith)));
+    };
+    said = λ others p. ap Some (ended others p).1;
+  }
+
+  page_longer : (at ≡ length line → ⊥) → PageRead line None
+  page_longer n = record { says = tt; said = λ others p. absurd (n (ended others p).0) }
+
+  pub page_end : PageRead line (then_some (eqb at (length line)) numbers)
+  page_end =
+      ⊎_elim (λ e. rw e (page_whole (eqb-true at (length line) e)))
+      (λ e. rw e (page_longer (λ q. true≢false (sym (eq-eqb at (length line) q) ∙ e)))) (ways (eqb at (length line)))

@@ -1,6 +1,7 @@
 -- The line `page` that `put_page` writes is read back as its numbers.
 use mathlib.Core.Path.{◌≡◌, refl, sym, ap, subst, ◌∙◌}
-use mathlib.Core.Bool.{Bool, true, false}
+use Rattle.std.specs.Prelude.{Option, Some}
+use mathlib.Core.Bool.{true, false}
 use mathlib.Core.List.{List, [], ◌∷◌, ◌++◌, append_assoc, append-nil}
 use mathlib.Core.Logic.{⊎_elim}
 use Prim.Native.Nat.{ℕ, zero, suc, ◌+◌, ◌*◌, ◌-◌, ◌/◌, ◌%◌, ◌^◌, ◌<◌, ◌≤◌}
@@ -94,9 +95,9 @@ module _ (numbers : List ℕ) (all : length numbers ≡ 21) (small : (i : ℕ) �
         ∙ take-append_seam (page_word ++ texts) (feed ∷ [])
 
     -- what `read_numbers` answers on the line, without its line feed
-    pub reads_back : (r : Bool) (out : List ℕ) → PageRead line r out → (r ≡ true) × (out ≡ numbers)
+    pub reads_back : (r : Option (List ℕ)) → PageRead line r → r ≡ Some numbers
     unfolding texts
-    reads_back r out p =
+    reads_back r p =
         p.said numbers
         (record {
           all = all;

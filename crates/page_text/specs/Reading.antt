@@ -1,10 +1,6 @@
 -- The line `page` read back: which lines have its form, and the numbers that they hold.
-use Rattle.std.specs.Prelude.{◌≡◌, ◌↔◌, Bool, true, false, List, [], ◌∷◌, ◌++◌, ℕ, ◌+◌, ◌*◌, ◌-◌, ◌<◌, ◌≤◌, length, take, drop}
+use Rattle.std.specs.Prelude.{◌≡◌, List, [], ◌∷◌, ◌++◌, ℕ, ◌+◌, ◌*◌, ◌-◌, ◌<◌, ◌≤◌, length, drop, Option, Some, None, IfSome}
 use Rattle.page_text.specs.declared.ReadNumber.{ReadNumber}
-
--- r says whether a line begins with a word
-abbrev pub Begins : List ℕ → List ℕ → Bool → Type 0
-Begins line word r = (r ≡ true) ↔ (take (length word) line ≡ word)
 
 -- the largest number that is read: it has one digit more than the largest number to which a digit is appended
 abbrev pub most_read : ℕ
@@ -40,15 +36,15 @@ unfoldable pub Spaced : List ℕ → List ℕ → Type 0
 Spaced text [] = text ≡ []
 Spaced text (n ∷ numbers) = (digits : List ℕ) × (rest : List ℕ) × (text ≡ 32 ∷ (digits ++ rest)) × Decimal digits n × Spaced rest numbers
 
--- the line `page` with these numbers, without its line feed; what its first four bytes are `begins` says
+-- the line `page` with these numbers, without its line feed; its first four bytes are any: the caller has seen that they are `page`
 pub record PageForm (line numbers : List ℕ) : Type 0 where
   pub all : length numbers ≡ 21
   pub form : Spaced (drop 4 line) numbers
 
--- r says whether a line has this form; if so its numbers were read
-pub record PageRead (line : List ℕ) (r : Bool) (numbers : List ℕ) : Type 0 where
-  pub says : r ≡ true → PageForm line numbers
-  pub said : (others : List ℕ) → PageForm line others → (r ≡ true) × (numbers ≡ others)
+-- r is some numbers where a line has this form, and they are its numbers
+pub record PageRead (line : List ℕ) (r : Option (List ℕ)) : Type 0 where
+  pub says : IfSome r (λ numbers. PageForm line numbers)
+  pub said : (numbers : List ℕ) → PageForm line numbers → r ≡ Some numbers
 
 -- ---- one number
 -- digits from a place on to another, which make a value
@@ -62,11 +58,9 @@ pub record DigitsPassed (line : List ℕ) (from at value : ℕ) : Type 0 where
   pub within : value ≤ most_read
 
 -- all digits from a place on were read, unless their number is too large
-pub record DigitsRead (line : List ℕ) (from : ℕ) (r : ReadNumber) : Type 0 where
-  pub found : r.ok ≡ true → DigitsPassed line from r.end r.value
-  pub ends : r.ok ≡ true → NoDigit (drop r.end line)
-  pub none : r.ok ≡ false → (digits rest : List ℕ) → drop from line ≡ digits ++ rest → Digits digits → NoDigit rest → most_read < value_after 0 digits
-  pub nowhere : r.ok ≡ false → r.end ≡ 0
+pub record DigitsRead (line : List ℕ) (from : ℕ) (r : Option ReadNumber) : Type 0 where
+  pub found : IfSome r (λ n. DigitsPassed line from n.end n.value × NoDigit (drop n.end line))
+  pub none : r ≡ None → (digits rest : List ℕ) → drop from line ≡ digits ++ rest → Digits digits → NoDigit rest → most_read < value_after 0 digits
 
 -- a space and the number after it were read
 pub record SpacedFound (line : List ℕ) (at end value : ℕ) : Type 0 where
@@ -76,6 +70,6 @@ pub record SpacedFound (line : List ℕ) (at end value : ℕ) : Type 0 where
   pub ends : NoDigit (drop end line)
   pub inside : end ≤ length line
 
-pub record SpacedRead (line : List ℕ) (at : ℕ) (r : ReadNumber) : Type 0 where
-  pub found : r.ok ≡ true → SpacedFound line at r.end r.value
-  pub none : r.ok ≡ false → (digits rest : List ℕ) (n : ℕ) → drop at line ≡ 32 ∷ (digits ++ rest) → Decimal digits n → NoDigit rest → ⊥
+pub record SpacedRead (line : List ℕ) (at : ℕ) (r : Option ReadNumber) : Type 0 where
+  pub found : IfSome r (λ n. SpacedFound line at n.end n.value)
+  pub none : r ≡ None → (digits rest : List ℕ) (n : ℕ) → drop at line ≡ 32 ∷ (digits ++ rest) → Decimal digits n → NoDigit rest → ⊥

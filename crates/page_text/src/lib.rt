@@ -1,11 +1,11 @@
 #![tactic(auto)]
 // A page of the border report as text: a line in words for each of its 21 numbers, and last the line `page` with the numbers themselves, which is read
 // back. Numbers are decimal; misses are in ticks, with three decimals, halves up.
-ghost use Rattle.std.specs.Prelude.{◌≡◌, false, ◌+◌, ◌*◌, ◌-◌, ◌≤◌, ◌<◌, length};
+ghost use Rattle.std.specs.Prelude.{◌≡◌, ◌+◌, ◌*◌, ◌-◌, ◌≤◌, ◌<◌, length};
 ghost use Rattle.streams.specs.text.Text.{Put};
 ghost use Rattle.page_text.specs.Lines.{texts_below, named_line, refused_by_line, refusals_line, in_ticks, miss_line, condition_line};
 ghost use Rattle.page_text.specs.Lines.{spaced, spaced_number, page_line, page_lines};
-ghost use Rattle.page_text.specs.Reading.{Begins, PageRead, DigitsRead, SpacedRead};
+ghost use Rattle.page_text.specs.Reading.{PageRead, DigitsRead, SpacedRead};
 ghost use Rattle.page_text.specs.Lines.{thousandths as Lines·thousandths, digit as Lines·digit};
 
 use paper::{CONDITIONS, NUMBERS_ON_PAGE};
@@ -31,10 +31,9 @@ const HALF: u64 = TICK / 2;
 // The largest number to which a digit can be appended.
 const MOST_BEFORE: u64 = 1844674407370955160;
 
-// A number that was read, if there is one, and where it ends.
-#[derive(Drop)]
+// A number that was read, and where it ends.
+#[derive(Clone, Copy)]
 struct ReadNumber {
-    ok: bool,
     value: u64,
     end: usize,
 }
@@ -75,10 +74,8 @@ fn put_refusals(lines: &mut [u8], from: usize, numbers: &[u64; NUMBERS_ON_PAGE])
     ensures { Put lines.old from (texts_below (refusals_line numbers.now) 13) lines.new result }
 {
     let mut at = from;
-    let mut l = 0;
-    while l < COUNTED {
+    for l in 0..COUNTED {
         at = put_refused(lines, at, (l + 1) as u64, numbers[FIRST_REFUSALS + l]);
-        l += 1;
     }
     at
 }
@@ -99,10 +96,8 @@ fn put_misses(lines: &mut [u8], from: usize, numbers: &[u64; NUMBERS_ON_PAGE]) -
     ensures { Put lines.old from (texts_below (condition_line numbers.now) 4) lines.new result }
 {
     let mut at = from;
-    let mut j = 0;
-    while j < CONDITIONS {
+    for j in 0..CONDITIONS {
         at = put_miss(lines, at, (j + 1) as u64, numbers[FIRST_MISSES + j]);
-        j += 1;
     }
     at
 }
@@ -147,10 +142,8 @@ fn put_all(lines: &mut [u8], from: usize, numbers: &[u64; NUMBERS_ON_PAGE]) -> u
     ensures { Put lines.old from (texts_below (spaced_number numbers.now) 21) lines.new result }
 {
     let mut at = from;
-    let mut i = 0;
-    while i < NUMBERS_ON_PAGE {
-        at = put_spaced(lines, at, numbers[i]);
-        i += 1;
+    for n in numbers {
+        at = put_spaced(lines, at, *n);
     }
     at
 }
@@ -162,92 +155,53 @@ fn put_spaced(lines: &mut [u8], at: usize, n: u64) -> usize
     put_number(lines, space, n)
 }
 
-// Whether a line begins with the word.
-pub fn begins(line: &[u8], word: &[u8]) -> bool
-    ensures { Begins line.now word.now result }
+// The numbers of a line that begins with `page`, if they are its 21 and nothing else follows. The line feed is not part of it. The line that `put_page`
+// writes is read back as its numbers (`reads_back` in proofs/Returns.antt).
+pub fn read_numbers(line: &[u8]) -> Option<[u64; NUMBERS_ON_PAGE]>
+    ensures { PageRead line.now result }
 {
-    if line.len() < word.len() {
-        return false;
-    }
-    let mut i = 0;
-    while i < word.len() {
-        if line[i] != word[i] {
-            return false;
-        }
-        i += 1;
-    }
-    true
-}
-
-// Reads the numbers of a line that begins with `page`, and answers whether they are its 21 and nothing else follows. The line feed is not part of it.
-// Where it answers no, what the numbers hold is free: those before the fault were read. The line that `put_page` writes is read back as its numbers
-// (`reads_back` in proofs/Returns.antt).
-pub fn read_numbers(line: &[u8], numbers: &mut [u64; NUMBERS_ON_PAGE]) -> bool
-    ensures { PageRead line.now result numbers.new }
-{
-    read_all(line, numbers)
-}
-
-// The same, into a list of so many numbers.
-fn read_all(line: &[u8], numbers: &mut [u64]) -> bool
-    requires { length numbers.old ≡ 21 }
-    ensures { PageRead line.now result numbers.new }
-{
+    let mut numbers = [0u64; NUMBERS_ON_PAGE];
     let mut at = 4;
-    let mut i = 0;
-    while i < NUMBERS_ON_PAGE {
-        let n = read_number(line, at);
-        if !n.ok {
-            return false;
-        }
-        numbers[i] = n.value;
-        at = n.end;
-        i += 1;
+    for number in &mut numbers {
+        let read = read_number(line, at)?;
+        *number = read.value;
+        at = read.end;
     }
-    at == line.len()
+    (at == line.len()).then_some(numbers)
 }
 
 // A space, and the number after it.
-fn read_number(line: &[u8], at: usize) -> ReadNumber
+fn read_number(line: &[u8], at: usize) -> Option<ReadNumber>
     ensures { SpacedRead line.now at result }
 {
-    if line.len() <= at {
-        return no_number();
-    }
-    if line[at] != b' ' {
-        return no_number();
+    if line.len() <= at || line[at] != b' ' {
+        return None;
     }
     let start = at + 1;
-    let n = read_digits(line, start);
-    if n.end == start {
-        return no_number();
-    }
-    n
+    let read = read_digits(line, start)?;
+    if read.end == start { None } else { Some(read) }
 }
 
 // The number that the digits from a place on make. None where it is above the largest that is read.
-fn read_digits(line: &[u8], from: usize) -> ReadNumber
+fn read_digits(line: &[u8], from: usize) -> Option<ReadNumber>
     requires { from ≤ length line.now }
     ensures { DigitsRead line.now from result }
 {
     let mut value: u64 = 0;
-    let mut at = from;
-    while at < line.len() {
+    for at in from..line.len() {
         let byte = line[at];
-        if byte < b'0' || b'9' < byte {
-            break;
+        if !byte.is_ascii_digit() {
+            return Some(ReadNumber { value, end: at });
         }
         if MOST_BEFORE < value {
-            return no_number();
+            return None;
         }
         value = appended(value, byte);
-        at += 1;
     }
-    ReadNumber {
-        ok: true,
-        value: value,
-        end: at,
-    }
+    Some(ReadNumber {
+        value,
+        end: line.len(),
+    })
 }
 
 // A number with one digit more.
@@ -255,15 +209,5 @@ fn appended(value: u64, digit: u8) -> u64
     requires { (value ≤ 1844674407370955160) × (48 ≤ digit) × (digit ≤ 57) }
     ensures { result ≡ 10 * value + (digit - 48) }
 {
-    10 * value + (digit - b'0') as u64
-}
-
-fn no_number() -> ReadNumber
-    ensures { (result.ok ≡ false) × (result.end ≡ 0) }
-{
-    ReadNumber {
-        ok: false,
-        value: 0,
-        end: 0,
-    }
+    10 * value + u64::from(digit - b'0')
 }

@@ -3,16 +3,16 @@ use mathlib.Core.Path.{◌≡◌, refl, sym, ap, ◌∙◌}
 use mathlib.Core.Bool.{Bool, true, false, ◌||◌}
 use mathlib.Core.List.{List, [], ◌∷◌, ◌++◌}
 use Prim.Native.Nat.{ℕ, zero, suc, ◌+◌, ◌≤◌, ◌<◌}
-use native.Mathlib.Numerals.{add-one}
 use native.Mathlib.Omega.{arith}
 use borrow.Author.Tests.{lt-ltb, le-ltb, le-leb, lt-leb, ltb-false, leb-false}
 use lib.Dec.{ltb}
-use lib.ListN.{length, get_or, drop}
-use lib.Seq.{drop-cons, drop-length}
+use lib.ListN.{get_or}
+use Rattle.std.specs.List.{list_any}
 use Rattle.paper.specs.Faults.{sound, fault, ◌or_else◌, single}
 use Rattle.paper.specs.Report.{most_meshes, most_on_page, some_above, fault38, page_verdict, merged, merge_verdict, MergedTo}
-use Rattle.paper.specs.declared.Answer.TheVariants.{Done, Refused}
 use Rattle.paper.specs.declared.Page.{Page}
+use Rattle.paper.specs.declared.Refusal.{Refusal}
+use Rattle.std.specs.Prelude.{Ok, Err}
 use Rattle.mesh.proofs.Verdicts.{sound_left, sound_right, single_sound}
 
 -- ---- either of two tests
@@ -35,18 +35,10 @@ unfolding some_above
 append_some [] b = refl
 append_some (n ∷ a) b = ap (λ (t : Bool). ltb most_on_page n || t) (append_some a b) ∙ or_assoc (ltb most_on_page n) (some_above a) (some_above b)
 
-module _ (l : List ℕ) (i : ℕ) (h : i < length l) where
-  pub some_here : most_on_page < get_or l i 0 → some_above (drop i l) ≡ true
-  unfolding some_above
-  some_here m = ap some_above (drop-cons l i 0 h) ∙ rw (lt-ltb most_on_page (get_or l i 0) m)
-
-  pub some_later : get_or l i 0 ≤ most_on_page → some_above (drop i l) ≡ some_above (drop (i + 1) l)
-  unfolding some_above
-  some_later m = ap some_above (drop-cons l i 0 h) ∙ rw (le-ltb most_on_page (get_or l i 0) m, add-one i)
-
-pub some_end : (l : List ℕ) (i : ℕ) → i ≡ length l → some_above (drop i l) ≡ false
+pub any_above : (l : List ℕ) → list_any (λ n. ltb most_on_page n) l ≡ some_above l
 unfolding some_above
-some_end l i e = rw (e, drop-length l)
+any_above [] = refl
+any_above (n ∷ l) = ap (λ (t : Bool). ltb most_on_page n || t) (any_above l)
 
 none_of : (l : List ℕ) → some_above l ≡ false → (i : ℕ) → get_or l i 0 ≤ most_on_page
 unfolding some_above
@@ -54,33 +46,29 @@ none_of [] e i = omega arith
 none_of (n ∷ l) e zero = ltb-false most_on_page n (or_left _ _ e)
 none_of (n ∷ l) e (suc i) = none_of l (or_right (ltb most_on_page n) _ e) i
 
--- ---- a page with one
+-- ---- a page with one: among its counts, its refusals or its misses
 module _ (P : Page) where
-  pub above_meshes : most_on_page < P.meshes → true ≡ fault38 P
-  unfolding some_above
-  above_meshes h = rw (lt-ltb most_on_page P.meshes h)
+  counts : Bool
+  counts = some_above (P.meshes ∷ P.corners ∷ P.borders ∷ [])
 
-  module _ (m : P.meshes ≤ most_on_page) where
-    pub above_corners : most_on_page < P.corners → true ≡ fault38 P
-    unfolding some_above
-    above_corners h = rw (le-ltb most_on_page P.meshes m, lt-ltb most_on_page P.corners h)
+  lists : fault38 P ≡ counts || (some_above P.refusals || some_above P.misses)
+  unfolding counts
+  lists =
+      append_some (P.meshes ∷ P.corners ∷ P.borders ∷ []) (P.refusals ++ P.misses)
+      ∙ ap (λ (t : Bool). some_above (P.meshes ∷ P.corners ∷ P.borders ∷ []) || t) (append_some P.refusals P.misses)
 
-    module _ (c : P.corners ≤ most_on_page) where
-      pub above_borders : most_on_page < P.borders → true ≡ fault38 P
-      unfolding some_above
-      above_borders h = rw (le-ltb most_on_page P.meshes m, le-ltb most_on_page P.corners c, lt-ltb most_on_page P.borders h)
+  pub above_counts : some_above (P.meshes ∷ P.corners ∷ P.borders ∷ []) ≡ true → true ≡ fault38 P
+  unfolding counts
+  above_counts e = sym (lists ∙ rw e)
 
-      module _ (b : P.borders ≤ most_on_page) where
-        lists : fault38 P ≡ some_above P.refusals || some_above P.misses
-        unfolding some_above
-        lists =
-            rw (le-ltb most_on_page P.meshes m, le-ltb most_on_page P.corners c, le-ltb most_on_page P.borders b) (append_some P.refusals P.misses)
+  module _ (n : some_above (P.meshes ∷ P.corners ∷ P.borders ∷ []) ≡ false) where
+    pub above_refusals : some_above P.refusals ≡ true → true ≡ fault38 P
+    unfolding counts
+    above_refusals e = sym (lists ∙ rw (n, e))
 
-        pub above_refusals : true ≡ some_above P.refusals → true ≡ fault38 P
-        above_refusals e = sym (lists ∙ rw (← e))
-
-        pub above_misses : false ≡ some_above P.refusals → some_above P.misses ≡ fault38 P
-        above_misses e = sym (lists ∙ rw (← e))
+    pub above_misses : some_above P.refusals ≡ false → some_above P.misses ≡ fault38 P
+    unfolding counts
+    above_misses e = sym (lists ∙ rw (n, e))
 
 -- ---- the two checks of a page
 module _ (P : Page) where
@@ -149,8 +137,8 @@ both_small P Q e =
     )
 
 -- ---- what a call of merging leaves
-pub refused_merge : (P Q : Page) (k p : ℕ) → fault k p ≡ merge_verdict P Q → MergedTo P Q (record { answer = Refused k p; page = P })
-refused_merge P Q k p e = record { answers = e; holds = rw (← e) }
+pub refused_merge : (P Q : Page) (r : Refusal) → fault r.number r.place ≡ merge_verdict P Q → MergedTo P Q (Err r)
+refused_merge P Q r e = record { answers = e; holds = tt }
 
-pub done_merge : (P Q N : Page) → merge_verdict P Q ≡ sound → N ≡ merged P Q → MergedTo P Q (record { answer = Done; page = N })
-done_merge P Q N e n = record { answers = sym e; holds = rw e n }
+pub done_merge : (P Q N : Page) → merge_verdict P Q ≡ sound → N ≡ merged P Q → MergedTo P Q (Ok N)
+done_merge P Q N e n = record { answers = sym e; holds = n }

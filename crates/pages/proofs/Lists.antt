@@ -1,17 +1,18 @@
 -- A page's lists: values in a row, the numbers of the lines, and four misses.
-use mathlib.Core.Path.{◌≡◌, refl, sym, ap, ◌∙◌}
-use mathlib.Core.List.{List, [], ◌∷◌}
-use Prim.Native.Nat.{ℕ, ◌+◌, ◌<◌, max}
+use mathlib.Core.Path.{◌≡◌, refl, sym, ap, subst, ◌∙◌}
+use mathlib.Core.List.{List}
+use Prim.Native.Nat.{ℕ, zero, suc, ◌+◌, ◌<◌}
 use native.Mathlib.Omega.{arith}
-use lib.Dec.{eqb, eqb→eq}
 use lib.ListN.{length, get_or}
 use lib.Seq.{ext_get_or}
-use Rattle.paper.proofs.Below.{below_at}
-use Rattle.paper.specs.Scan.{values_from}
+use Rattle.std.specs.Array.{IsFromFnResultFrom, IsFromFnResult}
+use Rattle.std.specs.Fn.{Called}
+use denote.Param.Members.{Mut}
+use Rattle.paper.specs.Scan.{pick_n, values_from}
+use Rattle.std.specs.Int.{from_bool}
+use mathlib.Core.Bool.{Bool, true, false}
 use Rattle.mesh.proofs.Links.{values_length, values_at}
-use Rattle.paper.specs.Report.{page_with, line_numbers, conditions}
-use Rattle.pages.specs.four.Four.{in_misses}
-use Rattle.pages.specs.declared.four.Misses.{Misses}
+use Rattle.paper.specs.Report.{page_with}
 
 -- values in a row
 pub value_at_lem : (f : ℕ → ℕ) (n i : ℕ) → i < n → get_or (values_from f 0 n) i 0 ≡ f i
@@ -27,21 +28,22 @@ values_of f l n e h =
     ext_get_or 0 (values_from f 0 n) l (values_length f 0 n ∙ sym e)
     (λ i b. let k : i < n = omega (arith, values_length f 0 n) in value_at_lem f n i k ∙ h i k)
 
--- the first thirteen lines have the numbers from 1 on
-pub number_at_lem : (l : ℕ) → l < 13 → l + 1 ≡ get_or line_numbers l 0
-number_at_lem l h = eqb→eq (l + 1) (get_or line_numbers l 0) (below_at (λ l. eqb (l + 1) (get_or line_numbers l 0)) 13 tt l h)
+-- what `array::from_fn` makes with a closure that gives `h i` at `i` and stays as it is
+module _ {F : Type 0} (g : Mut F (ℕ × Unit {0}) ℕ) (f : F) (h : ℕ → ℕ) (call : (i y : ℕ) (q : F) → Called g f (i, tt) y q → (q ≡ f) × (y ≡ h i)) where
+  made_at : (ys : List ℕ) (i n : ℕ) → IsFromFnResultFrom g f ys i n → (k : ℕ) → k < n → get_or ys (i + k) 0 ≡ h (i + k)
+  made_at ys i zero r k l = absurd (omega arith)
+  made_at ys i (suc n) r zero l = subst (λ (j : ℕ). get_or ys j 0 ≡ h j) (omega arith) (r.2.1 0 ∙ (call i r.1 r.0 r.3).1)
+  made_at ys i (suc n) r (suc k) l =
+      let rest = subst (λ p. IsFromFnResultFrom g p ys (i + 1) n) (call i r.1 r.0 r.3).0 r.4 in
+      subst (λ (j : ℕ). get_or ys j 0 ≡ h j) (omega arith) (made_at ys (i + 1) n rest k (omega arith))
 
--- four numbers in a row
-pub four_values : (f : ℕ → ℕ) (w x y z : ℕ) → w ≡ f 0 → x ≡ f 1 → y ≡ f 2 → z ≡ f 3 → w ∷ x ∷ y ∷ z ∷ [] ≡ values_from f 0 conditions
-unfolding values_from
-four_values f w x y z ew ex ey ez = rw (ew, ex, ey, ez)
+  pub made_whole : (ys : List ℕ) (n : ℕ) → IsFromFnResult g f ys n → ys ≡ values_from h 0 n
+  made_whole ys n r = sym (values_of h ys n r.long (λ i l. sym (subst (λ (j : ℕ). get_or ys j 0 ≡ h j) (let z : 0 + i ≡ i = omega arith in z) (made_at ys 0 n r.each i l))))
 
--- the misses of a page as four numbers
-pub four_of_lem : (old others : List ℕ)
-    → let four : Misses = record { first = get_or others 0 0; second = get_or others 1 0; third = get_or others 2 0; fourth = get_or others 3 0 } in
-    values_from (λ j. max (get_or old j 0) (in_misses four j)) 0 conditions ≡ values_from (λ j. max (get_or old j 0) (get_or others j 0)) 0 conditions
-unfolding values_from
-four_of_lem old others = refl
+-- one where a test holds
+pub one_where : (b : Bool) → from_bool b ≡ pick_n b 1 0
+one_where true = refl
+one_where false = refl
 
 -- pages with the same numbers
 pub page_same : (m c b m' c' b' : ℕ) (r s r' s' : List ℕ) → m ≡ m' → c ≡ c' → b ≡ b' → r ≡ r' → s ≡ s' → page_with m c b r s ≡ page_with m' c' b' r' s'

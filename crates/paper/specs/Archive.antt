@@ -4,8 +4,7 @@ use Rattle.std.specs.Prelude.{Bool, not, List, ◌++◌, ℕ, zero, suc, ◌+◌
 use Rattle.std.specs.Int.{w32}
 use Rattle.std.proofs.Common.{of_z, to_z, SFits}
 use Rattle.paper.specs.Scan.{values_from}
-use Rattle.paper.specs.Faults.{Verdict, ◌or_else◌, single, Answered}
-use Rattle.paper.specs.declared.Answer.{Answer}
+use Rattle.paper.specs.Faults.{Verdict, ◌or_else◌, single, Answered, Answer}
 
 -- ---- the checks, of the lengths of number list and byte list, whichever of them is lent
 -- 30: the number list's length is no multiple of three

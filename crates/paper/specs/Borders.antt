@@ -6,7 +6,7 @@ use Rattle.paper.specs.Cosines.{unit}
 use Rattle.paper.specs.Refined.{corners_of, refined_of}
 use Rattle.paper.specs.Net.{Side, neighbour, across, H, T, X, Y, C, outer_row, a_row}
 use Rattle.paper.specs.Calls.{per_corner, nets, Built}
-use Rattle.paper.specs.declared.Answer.TheVariants.{Done}
+use Rattle.paper.specs.Faults.{done}
 
 -- ---- a call's output
 -- its numbers, for `count` corners from `first` on
@@ -22,7 +22,7 @@ output_at numbers first count = record { numbers = numbers; first = first; count
 pub record Wrote (M : Mesh) (O : Output) : Type 0 where
   pub links : List ℕ
   pub old : List ℤ
-  pub call : Built M links O.first O.count old Done O.numbers
+  pub call : Built M links O.first O.count old done O.numbers
 
 -- what such a call leaves
 abbrev pub output_of : Mesh → ℕ → ℕ → Output

@@ -1,10 +1,10 @@
 -- The C face: what each call answers, what stands behind `place` and what each lent space holds afterwards. The verdicts and
 -- contents are those of the functions that it wraps. A call that fills one lent space is `Called`; those that fill more have records of their own.
-use Rattle.std.specs.Prelude.{◌≡◌, ◌||◌, List, ℕ, ◌+◌, ltb, length, get_or, set, ℤ, Float}
-use Rattle.paper.specs.Mesh.{Mesh, Lengths, lengths_of, most_sides, vertex_count, face_count, corner_count}
+use Rattle.std.specs.Prelude.{◌≡◌, ◌||◌, List, ℕ, ◌+◌, ltb, length, get_or, set, ℤ, Float, Ok, Err}
+use Rattle.paper.specs.Mesh.{Mesh, lengths_of, most_sides, vertex_count, face_count, corner_count}
 use Rattle.paper.specs.Scan.{values_from}
 use Rattle.paper.specs.Links.{link_table}
-use Rattle.paper.specs.Faults.{Verdict, sound, fault, ◌or_else◌, single, verdict, link_verdict, kept}
+use Rattle.paper.specs.Faults.{Verdict, sound, fault, ◌or_else◌, single, verdict, link_verdict, kept, Told}
 use Rattle.paper.specs.Counts.{vertices_with, faces_with, for_each}
 use Rattle.paper.specs.File.{file_mesh, file_verdict, begins, into, no_room, decode_verdict}
 use Rattle.paper.specs.Calls.{nets, build_verdict}
@@ -22,7 +22,8 @@ use Rattle.paper.specs.Report.{page_with, lines, conditions, numbers_on, added, 
 use Rattle.paper.specs.declared.Counts.{Counts}
 use Rattle.paper.specs.declared.Floats.{Floats}
 use Rattle.paper.specs.declared.FloatPoint.{FloatPoint}
-use Rattle.paper.specs.declared.FloatPoint.TheVariants.{Near, Far, Refused}
+use Rattle.paper.specs.declared.FloatPoint.TheVariants.{Near, Far}
+use Rattle.paper.specs.declared.Lengths.{Lengths}
 use Rattle.paper.specs.declared.Move.{Move}
 use Rattle.paper.specs.declared.Page.{Page}
 
@@ -95,20 +96,20 @@ abbrev pub put : ℕ → Floats → List Float → List Float
 put at p old = set (set (set old at p.x) (at + 1) p.y) (at + 2) p.z
 
 -- near: three floats and 0, the other three left alone; far: the first floats, then the second ones, and 1
-abbrev pub laid : FloatPoint → List Float → List Float
-laid (Near p) old = put 0 p old
-laid (Far p q) old = put 3 q (put 0 p old)
-laid (Refused number place) old = old
+abbrev pub laid : Told FloatPoint → List Float → List Float
+laid (Ok (Near p)) old = put 0 p old
+laid (Ok (Far p q)) old = put 3 q (put 0 p old)
+laid (Err refusal) old = old
 
-abbrev pub pairs_of : FloatPoint → ℕ → ℕ
-pairs_of (Near p) old = 0
-pairs_of (Far p q) old = 1
-pairs_of (Refused number place) old = old
+abbrev pub pairs_of : Told FloatPoint → ℕ → ℕ
+pairs_of (Ok (Near p)) old = 0
+pairs_of (Ok (Far p q)) old = 1
+pairs_of (Err refusal) old = old
 
 pub record FloatsCall (numbers : List ℤ) (point : ℕ) (old : List Float) (pairs before r after : ℕ) (floats : List Float) (told : ℕ) : Type 0 where
   pub answers : States (point_verdict numbers point) before r after
   -- the point as it is asked, to the bit
-  pub point_is : FloatPoint
+  pub point_is : Told FloatPoint
   pub pointed : InFloats numbers point point_is
   pub holds : floats ≡ laid point_is old
   pub tells : told ≡ pairs_of point_is pairs

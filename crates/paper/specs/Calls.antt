@@ -3,11 +3,10 @@ use Rattle.std.specs.Prelude.{Bool, not, ◌||◌, List, ℕ, ◌+◌, ◌*◌, 
 use Rattle.paper.specs.Scan.{values_from}
 use Rattle.paper.specs.Mesh.{Mesh, corner_count}
 use Rattle.paper.specs.Links.{link_table, link}
-use Rattle.paper.specs.Faults.{link_verdict, Answered, Verdict, ◌or_else◌, single, lowest_of}
+use Rattle.paper.specs.Faults.{link_verdict, Answered, Verdict, ◌or_else◌, single, lowest_of, Answer}
 use Rattle.paper.specs.Numbers.{Numbers, rounded}
 use Rattle.paper.specs.Refined.{refined_of}
 use Rattle.paper.specs.Net.{net, net_points}
-use Rattle.paper.specs.declared.Answer.{Answer}
 
 -- a call of linking on the lists M with a lent table that held `old`: it answers the fault of 4 to 14, or none, and writes the links of the mesh
 abbrev pub Linked : Mesh → List ℕ → Answer → List ℕ → Type 0

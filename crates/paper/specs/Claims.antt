@@ -1,10 +1,10 @@
 -- The theorems, as types, in two parts, each in the order of the papers: what 01 and 02 ask, each with the sentence that it answers, and what we add.
 -- `Demanded` and `Further` list the two, and crate claims has a value of both, `Claims`. What the papers ask of a call, its answer and what it leaves, is
 -- in that call's contract; here is what they ask beyond one call.
-use Rattle.std.specs.Prelude.{◌≡◌, Bool, true, false, List, ◌++◌, ◌↔◌, ℕ, ◌+◌, ◌*◌, ◌%◌, ◌≤◌, ◌<◌, length, get_or, take, drop, ℤ, pos, nat_abs}
+use Rattle.std.specs.Prelude.{◌≡◌, Bool, true, false, List, ◌++◌, ◌↔◌, ℕ, ◌+◌, ◌*◌, ◌%◌, ◌≤◌, ◌<◌, length, get_or, take, drop, ℤ, pos, nat_abs, Ok}
 use Rattle.paper.specs.Mesh.{Mesh, vertex_count, face_count, corner_count, least_sides, most_sides, plain_list}
 use Rattle.paper.specs.Links.{link_table}
-use Rattle.paper.specs.Faults.{sound, fault, list_faults, Accepted, fault27, fault28, stated}
+use Rattle.paper.specs.Faults.{sound, fault, list_faults, Accepted, fault27, fault28, stated, Told, Answer, done}
 use Rattle.paper.specs.Numbers.{rounded, Fraction, exact}
 use Rattle.paper.specs.Cosines.{unit, RowRules}
 use Rattle.paper.specs.Refined.{refined_of, refined_of01}
@@ -28,17 +28,13 @@ use Rattle.paper.specs.Mirror.{Mirror}
 use Rattle.paper.specs.Accuracy.{Same, Accurate}
 use Rattle.paper.specs.Manifold.{Manifold}
 use Rattle.paper.specs.Examples.{AllGive, examples}
-use Rattle.paper.specs.declared.Answer.{Answer}
-use Rattle.paper.specs.declared.Answer.TheVariants.{Done}
-use Rattle.paper.specs.declared.Decoded.{Decoded}
+use Rattle.paper.specs.declared.Counts.{Counts}
 use Rattle.paper.specs.declared.FloatPoint.{FloatPoint}
-use Rattle.paper.specs.declared.Irregular.{Irregular}
+use Rattle.paper.specs.declared.Lengths.{Lengths}
 use Rattle.paper.specs.declared.Move.{Move}
-use Rattle.paper.specs.declared.Reported.{Reported}
-use Rattle.paper.specs.declared.Summary.{Summary}
-use Rattle.paper.specs.declared.Tangents.{Tangents}
+use Rattle.paper.specs.declared.Page.{Page}
+use Rattle.paper.specs.declared.Search.{Search}
 use Rattle.paper.specs.declared.Triangles.{Triangles}
-use Rattle.paper.specs.declared.Turned.{Turned}
 
 -- ========================================================================================================================================================
 -- What 01 and 02 ask
@@ -61,7 +57,7 @@ ExamplesAgree = AllGive examples
 -- ---- L1: "In a near point, each float, read back as a whole number, is the difference." Of a near point the sum is the float itself, of a far one that of the pair
 abbrev pub FloatSums : Type 0
 FloatSums =
-    (numbers : List ℤ) (point : ℕ) (r : FloatPoint) → InFloats numbers point r → net_verdict numbers ≡ sound → point ≤ 40
+    (numbers : List ℤ) (point : ℕ) (r : Told FloatPoint) → InFloats numbers point r → net_verdict numbers ≡ sound → point ≤ 40
     → sums r ≡ axes (difference numbers point 0) (difference numbers point 1) (difference numbers point 2)
 
 -- "In a far pair the first float is a multiple of 4,096, the second lies in 0 to 4,095, and their whole-number sum is the difference."
@@ -74,7 +70,7 @@ Mirrors = (axis : ℕ) (M : Mesh) → Mirror axis M
 
 -- ---- L4: "We want a listing in which every body stands after the one it hangs in, with the lowest number first among those that may come next."
 abbrev pub ListingOrdered : Type 0
-ListingOrdered = (holders old out : List ℕ) → Nested holders old Done out → Ordered holders out
+ListingOrdered = (holders old out : List ℕ) → Nested holders old done out → Ordered holders out
 
 -- "A table that passes 21 and 22 is accepted exactly when every body's chain ends at the Sun."
 abbrev pub ChainsDecide : Type 0
@@ -91,15 +87,15 @@ EachChain =
 -- ---- L6: "place in 25 and 26: the word's number from 0, for a missing word the number of words there are". The place of 25 is above 0, as word 0 is OFF
 abbrev pub MissingWord : Type 0
 MissingWord =
-    (text : List ℕ) (lent : Mesh) (r : Decoded) (lists : Mesh) (p : ℕ) → OffRead text lent r lists → stated r.answer ≡ fault 25 p
+    (text : List ℕ) (lent : Mesh) (r : Told Lengths) (lists : Mesh) (p : ℕ) → OffRead text lent r lists → stated r ≡ fault 25 p
     → (0 < p) × (p ≤ length (words_of text))
 
 -- ---- L7: "It must agree with the lines that `inspect` prints: a face exactly when a later line other than 4's counts faces, else a vertex exactly when such a line
 -- counts vertices."
 abbrev pub LinesAgree : Type 0
 LinesAgree =
-    (file : List ℕ) (counted : ℕ) (s : Summary) (r : Irregular)
-    → FileSurveyed file counted s → s.answer ≡ Done → Searched (file_mesh file) r → Agreed s.counts r
+    (file : List ℕ) (counted : ℕ) (counts : Counts) (r : Told Search)
+    → FileSurveyed file counted (Ok counts) → Searched (file_mesh file) r → (s : Search) × (r ≡ Ok s) × Agreed counts s.found
 
 -- ---- L8: "Version 1 files and OFF models read as 8 and 8 throughout and give today's points." 8 and 8 throughout
 abbrev pub Plain : Mesh → Type 0
@@ -130,7 +126,7 @@ abbrev pub NumbersReturn : Type 0
 NumbersReturn =
     (numbers lent back : List ℤ) (old bytes : List ℕ) (a r : Answer) → All32Bit numbers → length numbers % 3 ≡ 0
     → length old ≡ 4 * length numbers → length lent ≡ length numbers → Archived numbers old a bytes → Restored bytes lent r back
-    → (a ≡ Done) × (r ≡ Done) × (back ≡ numbers)
+    → (a ≡ done) × (r ≡ done) × (back ≡ numbers)
 
 -- ---- L12: "Between two neighbouring quad-nets, samples with k = 0 and the same i and j on a common side must be the same numbers." Of any two calls of building on
 -- a mesh
@@ -142,7 +138,7 @@ SamplesClose =
 -- ---- L13: "a tool that turns faces, keeps the lowest face of each connected part". Of all choices that pass 10 and 11, the one made is the only one that does so
 abbrev pub OneChoice : Type 0
 OneChoice =
-    (M lists : Mesh) (old out : List ℕ) (r : Turned) → TurnedTo M old r lists out → r.answer ≡ Done
+    (M lists : Mesh) (old out : List ℕ) (n : ℕ) → TurnedTo M old (Ok n) lists out
     → (keeps_lowest M.sides M.corners (turns_of M) ≡ true)
     × ((t : ℕ → Bool) → edge_faults (turned_mesh M t) ≡ sound → keeps_lowest M.sides M.corners t ≡ true
     → (f : ℕ) → f < face_count M → t f ≡ turns_of M f)
@@ -150,19 +146,19 @@ OneChoice =
 -- "and lists the turned ones in rising order": at the beginning of the listing, each higher than the one before; and no others
 abbrev pub ListingRises : Type 0
 ListingRises =
-    (M lists : Mesh) (old out : List ℕ) (r : Turned) → TurnedTo M old r lists out → r.answer ≡ Done
-    → ((i j : ℕ) → i < j → j < r.turned → get_or out i 0 < get_or out j 0)
-    × ((f : ℕ) → f < face_count M → listed (take r.turned out) f ≡ turns_of M f)
+    (M lists : Mesh) (old out : List ℕ) (n : ℕ) → TurnedTo M old (Ok n) lists out
+    → ((i j : ℕ) → i < j → j < n → get_or out i 0 < get_or out j 0)
+    × ((f : ℕ) → f < face_count M → listed (take n out) f ≡ turns_of M f)
 
 -- "The turned model stands in the lent corner and sharpness lists, and it passes 10 and 11."
 abbrev pub TurnedPasses : Type 0
-TurnedPasses = (M lists : Mesh) (old out : List ℕ) (r : Turned) → TurnedTo M old r lists out → r.answer ≡ Done → edge_faults lists ≡ sound
+TurnedPasses = (M lists : Mesh) (old out : List ℕ) (n : ℕ) → TurnedTo M old (Ok n) lists out → edge_faults lists ≡ sound
 
 -- "A model that passes 36, 4 to 9, 27 and 28 is refused exactly when no choice of turns does so."
 abbrev pub TurnsDecide : Type 0
 TurnsDecide =
-    (M lists : Mesh) (old out : List ℕ) (r : Turned) → TurnedTo M old r lists out → length old ≡ face_count M → list_faults M ≡ sound
-    → (r.answer ≡ Done → ⊥) ↔ ((t : ℕ → Bool) → edge_faults (turned_mesh M t) ≡ sound → ⊥)
+    (M lists : Mesh) (old out : List ℕ) (r : Told ℕ) → TurnedTo M old r lists out → length old ≡ face_count M → list_faults M ≡ sound
+    → (stated r ≡ sound → ⊥) ↔ ((t : ℕ → Bool) → edge_faults (turned_mesh M t) ≡ sound → ⊥)
 
 -- ---- L14: "Each border counts once, not from both its sides."
 abbrev pub BordersOnce : Type 0
@@ -193,7 +189,7 @@ Manifolds = (M : Mesh) → Accepted M → (c : ℕ) → c < corner_count M → M
 abbrev pub EveryRange : Type 0
 EveryRange =
     (M : Mesh) → Accepted M → (first count : ℕ) → 0 < count → first + count ≤ corner_count M
-    → (old : List ℤ) → length old ≡ per_corner * count → Built M (link_table M) first count old Done (nets M first count)
+    → (old : List ℤ) → length old ≡ per_corner * count → Built M (link_table M) first count old done (nets M first count)
 
 -- every border of an accepted mesh, as one call for all its corners leaves it
 abbrev pub EveryBorder : Type 0
@@ -205,30 +201,30 @@ EveryBorder =
 abbrev pub CallsFromC : Type 0
 CallsFromC =
     (M : Mesh) (links : List ℕ) (first count : ℕ) (old : List ℤ) (before after : ℕ) (out : List ℤ)
-    → BuildCall M links first count old before 0 after out → Built M links first count old Done out
+    → BuildCall M links first count old before 0 after out → Built M links first count old done out
 
 -- ---- L1: there is one answer, to the bit
 abbrev pub OneAnswer : Type 0
-OneAnswer = (numbers : List ℤ) (point : ℕ) (r s : FloatPoint) → InFloats numbers point r → InFloats numbers point s → r ≡ s
+OneAnswer = (numbers : List ℤ) (point : ℕ) (r s : Told FloatPoint) → InFloats numbers point r → InFloats numbers point s → r ≡ s
 
 -- every net that building writes passes 18 and 19
 abbrev pub NetsPass : Type 0
 NetsPass =
-    (M : Mesh) (links : List ℕ) (first count : ℕ) (old out : List ℤ) → Built M links first count old Done out
+    (M : Mesh) (links : List ℕ) (first count : ℕ) (old out : List ℤ) → Built M links first count old done out
     → (k : ℕ) → k < count → net_verdict (take per_corner (drop (per_corner * k) out)) ≡ sound
 
 -- ---- L4: no other list is ordered as the listing is
 abbrev pub OneListing : Type 0
-OneListing = (holders old out other : List ℕ) → Nested holders old Done out → Ordered holders other → other ≡ out
+OneListing = (holders old out other : List ℕ) → Nested holders old done out → Ordered holders other → other ≡ out
 
 -- ---- L6: 6 is never answered, as the side counts of a text sum to its corners
 abbrev pub NoSix : Type 0
-NoSix = (text : List ℕ) (lent : Mesh) (r : Decoded) (lists : Mesh) (p : ℕ) → OffRead text lent r lists → stated r.answer ≡ fault 6 p → ⊥
+NoSix = (text : List ℕ) (lent : Mesh) (r : Told Lengths) (lists : Mesh) (p : ℕ) → OffRead text lent r lists → stated r ≡ fault 6 p → ⊥
 
 -- an accepted text has the needed words and no others
 abbrev pub WholeText : Type 0
 WholeText =
-    (text : List ℕ) (lent : Mesh) (r : Decoded) (lists : Mesh) → OffRead text lent r lists → r.answer ≡ Done → words_end (words_of text) ≡ length (words_of text)
+    (text : List ℕ) (lent : Mesh) (l : Lengths) (lists : Mesh) → OffRead text lent (Ok l) lists → words_end (words_of text) ≡ length (words_of text)
 
 -- ---- L8: with 8 and 8 throughout neither 27 nor 28 applies
 abbrev pub PlainPasses : Type 0
@@ -238,20 +234,20 @@ PlainPasses = (M : Mesh) → Plain M → (fault27 (length M.sharpness) (corner_c
 abbrev pub PreviewsBuild : Type 0
 PreviewsBuild =
     (M : Mesh) (m : Move) (links : List ℕ) (first count : ℕ) (old out : List ℤ)
-    → Previewed M m links first count old Done out → Built (moved M m) links first count old Done out
+    → Previewed M m links first count old done out → Built (moved M m) links first count old done out
 
 -- and so is a call of `mahunopi_preview` that answers 0
 abbrev pub PreviewsFromC : Type 0
 PreviewsFromC =
     (M : Mesh) (m : Move) (links : List ℕ) (first count : ℕ) (old : List ℤ) (before after : ℕ) (out : List ℤ)
-    → PreviewCall M m links first count old before 0 after out → Built (moved M m) links first count old Done out
+    → PreviewCall M m links first count old before 0 after out → Built (moved M m) links first count old done out
 
 -- a corner whose mark is 0 has the same numbers before and after the move, in whatever two calls have it in their ranges
 abbrev pub Untouched : Type 0
 Untouched =
     (M : Mesh) (m : Move) (lent marks links links' : List ℕ) (first count first' count' : ℕ) (old old' out out' : List ℤ)
-    → Touched M m.vertex lent Done marks
-    → Built M links first count old Done out → Built (moved M m) links' first' count' old' Done out'
+    → Touched M m.vertex lent done marks
+    → Built M links first count old done out → Built (moved M m) links' first' count' old' done out'
     → (c : ℕ) → Holds (output_at out first count) c → Holds (output_at out' first' count') c → get_or marks c 0 ≡ 0
     → (axis k : ℕ) → axis < 3 → k < net_points → written (output_at out' first' count') axis c k ≡ written (output_at out first count) axis c k
 
@@ -264,7 +260,7 @@ abbrev pub BytesReturn : Type 0
 BytesReturn =
     (bytes old back : List ℕ) (lent numbers : List ℤ) (a r : Answer) → AllBytes bytes → length lent % 3 ≡ 0
     → length bytes ≡ 4 * length lent → length old ≡ length bytes → Restored bytes lent r numbers → Archived numbers old a back
-    → (r ≡ Done) × (a ≡ Done) × (back ≡ bytes)
+    → (r ≡ done) × (a ≡ done) × (back ≡ bytes)
 
 -- ---- L12: two triangles of one quad-net agree on the ray that they share, from their head or from their tail to the centre
 abbrev pub RaysAgree : Type 0
@@ -282,15 +278,15 @@ SampleEnds =
 -- each number of a sample lies between the least and the largest of its triangle's 15 coordinates
 abbrev pub SamplesBetween : Type 0
 SamplesBetween =
-    (numbers : List ℤ) (s : Side) (w : Weights) (old out : List ℤ) → Sampled numbers (side_number s) w old Done out
+    (numbers : List ℤ) (s : Side) (w : Weights) (old out : List ℤ) → Sampled numbers (side_number s) w old done out
     → (axis : ℕ) → axis < 3 → Between (on_axis numbers axis) s (get_or out axis (pos 0))
 
 -- the call for a triangle leaves the single samples: that of i, j, k is the one at place j of row k
 abbrev pub TrianglesSample : Type 0
 TrianglesSample =
-    (numbers : List ℤ) (side N : ℕ) (old out : List ℤ) → TriangleSampled numbers side N old Done out
+    (numbers : List ℤ) (side N : ℕ) (old out : List ℤ) → TriangleSampled numbers side N old done out
     → (i j k : ℕ) → i + j + k ≡ N → (old' point : List ℤ) (r : Answer) → Sampled numbers side (weights i j k N) old' r point
-    → (r ≡ Done) × (point ≡ take 3 (drop (3 * (row_start N k + j)) out))
+    → (r ≡ done) × (point ≡ take 3 (drop (3 * (row_start N k + j)) out))
 
 -- ---- L13: turning the same faces again gives the model back, whichever they are
 abbrev pub TurnedTwice : Type 0
@@ -299,13 +295,13 @@ TurnedTwice = (M : Mesh) → list_faults M ≡ sound → (t : ℕ → Bool) → 
 -- and so for a call
 abbrev pub TurnedBack : Type 0
 TurnedBack =
-    (M lists : Mesh) (old out : List ℕ) (r : Turned) → TurnedTo M old r lists out → r.answer ≡ Done → turned_mesh lists (turns_of M) ≡ M
+    (M lists : Mesh) (old out : List ℕ) (n : ℕ) → TurnedTo M old (Ok n) lists out → turned_mesh lists (turns_of M) ≡ M
 
 -- a model that already passes 10 and 11 is returned as it was, with nothing turned
 abbrev pub NothingTurned : Type 0
 NothingTurned =
-    (M lists : Mesh) (old out : List ℕ) (r : Turned) → TurnedTo M old r lists out → length old ≡ face_count M → list_faults M ≡ sound
-    → edge_faults M ≡ sound → (r.answer ≡ Done) × (r.turned ≡ 0) × (lists ≡ M) × (out ≡ old)
+    (M lists : Mesh) (old out : List ℕ) (r : Told ℕ) → TurnedTo M old r lists out → length old ≡ face_count M → list_faults M ≡ sound
+    → edge_faults M ≡ sound → (r ≡ Ok 0) × (lists ≡ M) × (out ≡ old)
 
 -- no face is farther from another than as many steps over shared edges as there are faces
 abbrev pub NoneFarther : Type 0
@@ -325,16 +321,16 @@ OrderFree = (files others : List Offered) → Reordered files others → length 
 -- a call that merges the pages of two parts is done and leaves the page of the whole run
 abbrev pub PartsMerge : Type 0
 PartsMerge =
-    (files more : List Offered) (r : Reported) → length files + length more ≤ most_meshes → MergedTo (run zero_page files) (run zero_page more) r
-    → (r.answer ≡ Done) × (r.page ≡ run zero_page (files ++ more))
+    (files more : List Offered) (r : Told Page) → length files + length more ≤ most_meshes → MergedTo (run zero_page files) (run zero_page more) r
+    → r ≡ Ok (run zero_page (files ++ more))
 
 -- ---- the triangles of the whole surface: `Whole says` is that `says` holds of the points and the triangles that a call for all corners has written, whatever the
 -- mesh and its levels, if the call is not refused
 abbrev pub Whole : (Mesh → List ℕ → List ℤ → List ℕ → Type 0) → Type 0
 Whole says =
-    (M : Mesh) (links levels : List ℕ) (old : List ℤ) (old' : List ℕ) (r : Triangles) (points : List ℤ) (triangles : List ℕ)
-    → Triangulated M links levels 0 (corner_count M) old old' r points triangles → r.answer ≡ Done
-    → says M levels (take r.points points) (take r.triangles triangles)
+    (M : Mesh) (links levels : List ℕ) (old : List ℤ) (old' : List ℕ) (n : Triangles) (points : List ℤ) (triangles : List ℕ)
+    → Triangulated M links levels 0 (corner_count M) old old' (Ok n) points triangles
+    → says M levels (take n.points points) (take n.triangles triangles)
 
 -- the triangles close: wherever one triangle has an edge from point p to point q, exactly one has the edge from q to p. So no gap is left between two of them,
 -- no edge has a third, and all are wound in the same direction
@@ -369,9 +365,9 @@ RangesJoin =
 -- counting serves: if the counting call is not refused, then neither is a call on the same input whose two lists have room for the counted numbers
 abbrev pub CountsServe : Type 0
 CountsServe =
-    (M : Mesh) (links levels : List ℕ) (first count : ℕ) (n r : Triangles) (old points : List ℤ) (old' triangles : List ℕ)
-    → TrianglesCounted M links levels first count n → n.answer ≡ Done → n.points ≤ length old → n.triangles ≤ length old'
-    → Triangulated M links levels first count old old' r points triangles → r.answer ≡ Done
+    (M : Mesh) (links levels : List ℕ) (first count : ℕ) (n : Triangles) (r : Told Triangles) (old points : List ℤ) (old' triangles : List ℕ)
+    → TrianglesCounted M links levels first count (Ok n) → n.points ≤ length old → n.triangles ≤ length old'
+    → Triangulated M links levels first count old old' r points triangles → stated r ≡ sound
 
 -- a call of `mahunopi_triangles` that answers 0 is a call for triangles that is not refused, and its two counts are those that stand behind `point_numbers` and
 -- `triangle_numbers`: what holds of calls holds of it. So is a call of `mahunopi_count_triangles` one that counts
@@ -379,22 +375,22 @@ abbrev pub TrianglesFromC : Type 0
 TrianglesFromC =
     (M : Mesh) (links levels : List ℕ) (first count : ℕ) (old : List ℤ) (old' : List ℕ) (lent : Sizes) (before after : ℕ) (points : List ℤ) (triangles : List ℕ)
     (told : Sizes) → TrianglesCall M links levels first count old old' lent before 0 after points triangles told
-    → Triangulated M links levels first count old old' (record { answer = Done; points = told.points; triangles = told.triangles }) points triangles
+    → Triangulated M links levels first count old old' (Ok (record { points = told.points; triangles = told.triangles })) points triangles
 
 abbrev pub CountsFromC : Type 0
 CountsFromC =
     (M : Mesh) (links levels : List ℕ) (first count : ℕ) (lent : Sizes) (before after : ℕ) (told : Sizes)
     → CountTrianglesCall M links levels first count lent before 0 after told
-    → TrianglesCounted M links levels first count (record { answer = Done; points = told.points; triangles = told.triangles })
+    → TrianglesCounted M links levels first count (Ok (record { points = told.points; triangles = told.triangles }))
 
 -- so is a call of `mahunopi_tangents_at` or `mahunopi_tangents` that answers 0 a call for tangents that is not refused
 abbrev pub TangentsFromC : Type 0
 TangentsFromC =
     ((numbers : List ℤ) (side : ℕ) (w : Weights) (old : List ℤ) (before after : ℕ) (out : List ℤ)
-    → TangentsAtCall numbers side w old before 0 after out → TangentsSampled numbers side w old Done out)
+    → TangentsAtCall numbers side w old before 0 after out → TangentsSampled numbers side w old done out)
     × ((M : Mesh) (links levels : List ℕ) (first count : ℕ) (old : List ℤ) (lent before after : ℕ) (out : List ℤ) (told : ℕ)
     → TangentsCall M links levels first count old lent before 0 after out told
-    → TangentsFilled M links levels first count old (record { answer = Done; numbers = told }) out)
+    → TangentsFilled M links levels first count old (Ok told) out)
 
 -- the tangents along a border agree: at a point of a common curve two calls, one on each of its nets, of any two outputs of a mesh, answer the same and leave the
 -- same tangent towards the tail. The weights are i of the head and j of the tail
@@ -404,16 +400,16 @@ TangentsClose =
     → (i j N : ℕ) (old old' out out' : List ℤ) (r r' : Answer)
     → TangentsSampled (net_in A c) (side_number s) (weights i j 0 N) old r out
     → TangentsSampled (net_in B (beside M c s)) (side_number (across s)) (weights i j 0 N) old' r' out'
-    → (r ≡ r') × (r ≡ Done → take 3 out ≡ take 3 out')
+    → (r ≡ r') × (r ≡ done → take 3 out ≡ take 3 out')
 
 -- the numbers of tangents are small: each that a call leaves, for one sample or for a range of corners, lies within -`most_tangent` to
 -- `most_tangent`
 abbrev pub TangentsWithin : Type 0
 TangentsWithin =
-    ((numbers : List ℤ) (side : ℕ) (w : Weights) (old out : List ℤ) → TangentsSampled numbers side w old Done out
+    ((numbers : List ℤ) (side : ℕ) (w : Weights) (old out : List ℤ) → TangentsSampled numbers side w old done out
     → (e : ℕ) → e < 6 → nat_abs (get_or out e (pos 0)) ≤ most_tangent)
-    × ((M : Mesh) (links levels : List ℕ) (first count : ℕ) (old : List ℤ) (r : Tangents) (out : List ℤ)
-    → TangentsFilled M links levels first count old r out → r.answer ≡ Done → (x : ℕ) → x < r.numbers → nat_abs (get_or out x (pos 0)) ≤ most_tangent)
+    × ((M : Mesh) (links levels : List ℕ) (first count : ℕ) (old : List ℤ) (n : ℕ) (out : List ℤ)
+    → TangentsFilled M links levels first count old (Ok n) out → (x : ℕ) → x < n → nat_abs (get_or out x (pos 0)) ≤ most_tangent)
 
 -- ========================================================================================================================================================
 -- All of them

@@ -1,14 +1,13 @@
 -- "Why a mesh is turned down": 4 to 13 with 27 and 28, each with its places, and the verdict that tries them in their order; 14; what an answer states,
 -- what a lent space holds after it, and a call that fills one.
-use Rattle.std.specs.Prelude.{◌≡◌, Bool, true, false, not, ◌&&◌, ◌||◌, List, ℕ, suc, ◌-◌, ◌*◌, ◌/◌, ◌%◌, ltb, leb, eqb, length, get_or, ℤ, pos, negsuc}
+use Rattle.std.specs.Prelude.{◌≡◌, Bool, true, false, not, ◌&&◌, ◌||◌, List, ℕ, suc, ◌-◌, ◌*◌, ◌/◌, ◌%◌, ltb, leb, eqb, length, get_or, ℤ, pos, negsuc, Result, Ok, Err}
 use Rattle.std.specs.Int.Signed.{lt_z}
 use Rattle.paper.specs.Scan.{first_below, some_below, iterate}
 use Rattle.paper.specs.Mesh.{least_sides, most_sides, most_vertices, most_faces, most_corners, most_coordinate, most_sharpness, plain, Mesh}
 use Rattle.paper.specs.Mesh.{vertex_count, face_count, corner_count}
 use Rattle.paper.specs.Corners.{sum_of, first_of}
 use Rattle.paper.specs.Links.{vertex_of, same_edge, reverse_edge, link, names, valence, lowest}
-use Rattle.paper.specs.declared.Answer.{Answer}
-use Rattle.paper.specs.declared.Answer.TheVariants.{Done, Refused}
+use Rattle.paper.specs.declared.Refusal.{Refusal}
 
 -- a verdict: what the checks of an input find, which is no fault, or the number and the place of the first one ("The answer is number and place")
 pub data Verdict : Type 0 where
@@ -127,10 +126,20 @@ Accepted M = verdict M ≡ sound
 unfoldable pub link_verdict : Mesh → ℕ → Verdict
 link_verdict M n = verdict M or_else single 14 (not (eqb n (corner_count M))) n
 
+-- what a call answers: a value, or a refusal; and of a call that has no value to tell, that it is done, or a refusal
+abbrev pub Told : Type 0 → Type 0
+Told A = Result A Refusal
+
+abbrev pub Answer : Type 0
+Answer = Told (Unit {0})
+
+abbrev pub done : Answer
+done = Ok tt
+
 -- 01's number and place of each case
-abbrev pub stated : Answer → Verdict
-stated Done = sound
-stated (Refused number place) = fault number place
+abbrev pub stated : {A : Type 0} → Told A → Verdict
+stated (Ok value) = sound
+stated (Err refusal) = fault refusal.number refusal.place
 
 -- the new contents where nothing is refused, else the old ones
 abbrev pub kept : {A : Type 0} → Verdict → A → A → A

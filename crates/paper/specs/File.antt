@@ -1,16 +1,15 @@
 -- "The file": a header of mark, version and three counts, then the coordinates, the side counts and the corner list, and in version 2 the sharpness list;
 -- all numbers have their low byte first. What the functions over a file answer: `survey` its counts, `decode` its lists, or why the file is turned down
 -- (1 to 13 and 28).
-use Rattle.std.specs.Prelude.{◌≡◌, Bool, not, ◌&&◌, ◌||◌, List, ◌++◌, ℕ, ◌+◌, ◌*◌, ltb, eqb, length, get_or, drop, take, replicate, ℤ}
+use Rattle.std.specs.Prelude.{◌≡◌, Bool, not, ◌&&◌, ◌||◌, List, ◌++◌, ℕ, ◌+◌, ◌*◌, ltb, eqb, length, get_or, drop, take, ℤ, IfOk}
 use Rattle.std.specs.Int.{w32}
 use Rattle.std.proofs.Common.{to_z}
 use Rattle.paper.specs.Scan.{pick_n, values_from}
-use Rattle.paper.specs.Mesh.{Mesh, mesh_of, most_sides, plain}
-use Rattle.paper.specs.Faults.{Verdict, ◌or_else◌, single, fault4, sound, fault, verdict, stated, kept}
+use Rattle.paper.specs.Mesh.{Mesh, mesh_of, plain, lengths_of}
+use Rattle.paper.specs.Faults.{Verdict, ◌or_else◌, single, fault4, verdict, stated, kept, Told}
 use Rattle.paper.specs.Counts.{Counted}
 use Rattle.paper.specs.declared.Counts.{Counts}
-use Rattle.paper.specs.declared.Decoded.{Decoded}
-use Rattle.paper.specs.declared.Summary.{Summary}
+use Rattle.paper.specs.declared.Lengths.{Lengths}
 
 -- ---- numbers in a file: 8, 16 and 32 bits, and 32 bits in two's complement
 abbrev pub byte_at : List ℕ → ℕ → ℕ
@@ -114,17 +113,12 @@ file_of bytes counted = take counted bytes
 unfoldable pub file_verdict : List ℕ → ℕ → Verdict
 file_verdict file counted = header_verdict file counted or_else verdict (file_mesh file)
 
--- the counts that stand beside a refusal
-abbrev pub no_counts : Counts
-no_counts = record { vertices = 0; faces = 0; corners = 0; cornered = replicate (most_sides + 1) 0; sided = replicate (most_sides + 1) 0 }
-
 -- what is answered of a mesh, or of a file that has it, whose checks give this verdict
-pub record Surveyed (M : Mesh) (v : Verdict) (r : Summary) : Type 0 where
-  pub answers : stated r.answer ≡ v
-  pub counts : v ≡ sound → Counted M r.counts
-  pub none : (k p : ℕ) → v ≡ fault k p → r.counts ≡ no_counts
+pub record Surveyed (M : Mesh) (v : Verdict) (r : Told Counts) : Type 0 where
+  pub answers : stated r ≡ v
+  pub counts : IfOk r (Counted M)
 
-abbrev pub FileSurveyed : List ℕ → ℕ → Summary → Type 0
+abbrev pub FileSurveyed : List ℕ → ℕ → Told Counts → Type 0
 FileSurveyed file counted r = Surveyed (file_mesh file) (file_verdict file counted) r
 
 -- our own number, outside 01's list: a lent space is shorter than its list (place: the list's length)
@@ -153,16 +147,13 @@ into M lent =
     mesh_of (begins M.coordinates lent.coordinates) (begins M.sides lent.sides) (begins M.corners lent.corners)
     (begins M.sharpness lent.sharpness)
 
--- the four lengths, 0 beside a refusal, and what the four lent spaces hold: the lists in their beginnings, or what they held
-pub record DecodedTo (file : List ℕ) (counted : ℕ) (lent : Mesh) (r : Decoded) (left : Mesh) : Type 0 where
+-- the four lengths, and what the four lent spaces hold: the lists in their beginnings, or what they held
+pub record DecodedTo (file : List ℕ) (counted : ℕ) (lent : Mesh) (r : Told Lengths) (left : Mesh) : Type 0 where
   pub answers :
-      stated r.answer
+      stated r
       ≡ decode_verdict file counted (length lent.coordinates) (length lent.sides) (length lent.corners) (length lent.sharpness)
-  pub coordinates_length : r.coordinates ≡ kept (stated r.answer) (length (file_mesh file).coordinates) 0
-  pub sides_length : r.sides ≡ kept (stated r.answer) (length (file_mesh file).sides) 0
-  pub corners_length : r.corners ≡ kept (stated r.answer) (length (file_mesh file).corners) 0
-  pub sharpness_length : r.sharpness ≡ kept (stated r.answer) (length (file_mesh file).sharpness) 0
-  pub coordinates_hold : left.coordinates ≡ kept (stated r.answer) (begins (file_mesh file).coordinates lent.coordinates) lent.coordinates
-  pub sides_hold : left.sides ≡ kept (stated r.answer) (begins (file_mesh file).sides lent.sides) lent.sides
-  pub corners_hold : left.corners ≡ kept (stated r.answer) (begins (file_mesh file).corners lent.corners) lent.corners
-  pub sharpness_hold : left.sharpness ≡ kept (stated r.answer) (begins (file_mesh file).sharpness lent.sharpness) lent.sharpness
+  pub lengths : IfOk r (λ l. l ≡ lengths_of (file_mesh file))
+  pub coordinates_hold : left.coordinates ≡ kept (stated r) (begins (file_mesh file).coordinates lent.coordinates) lent.coordinates
+  pub sides_hold : left.sides ≡ kept (stated r) (begins (file_mesh file).sides lent.sides) lent.sides
+  pub corners_hold : left.corners ≡ kept (stated r) (begins (file_mesh file).corners lent.corners) lent.corners
+  pub sharpness_hold : left.sharpness ≡ kept (stated r) (begins (file_mesh file).sharpness lent.sharpness) lent.sharpness

@@ -1,18 +1,17 @@
 -- L1, "Points the renderer can take": the difference of one control point of a quad-net from its b00, in floats. 18 to 20, the whole
 -- numbers that are asked, and the floats that carry them to the bit.
-use Rattle.std.specs.Prelude.{◌≡◌, Bool, true, false, not, ◌&&◌, ◌||◌, List, [], ◌∷◌, ◌++◌, ℕ, ◌+◌, ◌*◌, ◌/◌, ◌%◌, ◌^◌, ◌≤◌, ◌<◌, leb, ltb, eqb, length, get_or, take, drop, ℤ, pos, ◌+ℤ◌, ◌-ℤ◌, ◌*ℤ◌, nat_abs, Float}
+use Rattle.std.specs.Prelude.{◌≡◌, Bool, true, false, not, ◌&&◌, ◌||◌, List, [], ◌∷◌, ◌++◌, ℕ, ◌+◌, ◌*◌, ◌/◌, ◌%◌, ◌^◌, ◌≤◌, ◌<◌, leb, ltb, eqb, length, get_or, take, drop, ℤ, pos, ◌+ℤ◌, ◌-ℤ◌, ◌*ℤ◌, nat_abs, Float, IfOk, Ok, Err}
 use Rattle.std.specs.Float.{binary32}
 use Rattle.std.specs.Float.Ieee.{of_int, to_signed}
 use Rattle.paper.specs.Scan.{values_from}
 use Rattle.paper.specs.Mesh.{most_corners}
-use Rattle.paper.specs.Faults.{Verdict, sound, fault, ◌or_else◌, single, lowest_of, stated, kept}
+use Rattle.paper.specs.Faults.{Verdict, sound, fault, ◌or_else◌, single, lowest_of, stated, kept, Answer, Told}
 use Rattle.paper.specs.Numbers.{floor}
 use Rattle.paper.specs.File.{no_room, begins}
 use Rattle.paper.specs.Calls.{per_corner}
-use Rattle.paper.specs.declared.Answer.{Answer}
 use Rattle.paper.specs.declared.Floats.{Floats}
 use Rattle.paper.specs.declared.FloatPoint.{FloatPoint}
-use Rattle.paper.specs.declared.FloatPoint.TheVariants.{Near, Far, Refused}
+use Rattle.paper.specs.declared.FloatPoint.TheVariants.{Near, Far}
 
 -- z lies within ±m, both ends included
 abbrev pub within : ℕ → ℤ → Bool
@@ -95,22 +94,21 @@ abbrev pub AxesWhole : Floats → Type 0
 AxesWhole p = WholeFloat p.x × WholeFloat p.y × WholeFloat p.z
 
 -- the number and values that each case of an answer stands for
-abbrev pub point_stated : FloatPoint → PointCase
-point_stated (Near p) = near (axes_back p)
-point_stated (Far p q) = far (axes_back p) (axes_back q)
-point_stated (Refused number place) = refused number place
+abbrev pub point_stated : Told FloatPoint → PointCase
+point_stated (Ok (Near p)) = near (axes_back p)
+point_stated (Ok (Far p q)) = far (axes_back p) (axes_back q)
+point_stated (Err refusal) = refused refusal.number refusal.place
 
 abbrev pub AllWhole : FloatPoint → Type 0
 AllWhole (Near p) = AxesWhole p
 AllWhole (Far p q) = AxesWhole p × AxesWhole q
-AllWhole (Refused number place) = Unit {0}
 
 -- ---- a call on a list and a point number answers r
-pub record InFloats (numbers : List ℤ) (point : ℕ) (r : FloatPoint) : Type 0 where
+pub record InFloats (numbers : List ℤ) (point : ℕ) (r : Told FloatPoint) : Type 0 where
   -- the case and its whole numbers, or the fault of 18, 19 or 20
   pub answers : point_stated r ≡ point_of numbers point
   -- each float is a whole number, and a zero is plus zero
-  pub whole : AllWhole r
+  pub whole : IfOk r AllWhole
 
 -- ---- beyond the requests: all points of a list of quad-nets, 123 numbers for each, as six floats for each point
 -- a point's six whole numbers: near the three differences and three zeros, far the three first ones and the three second ones
@@ -147,10 +145,10 @@ pub record AllInFloats (numbers : List ℤ) (old : List Float) (r : Answer) (out
 
 -- ---- what the theorems say
 -- the whole-number sum of what comes back, on each axis; nothing comes back beside a refusal
-abbrev pub sums : FloatPoint → List ℤ
-sums (Near p) = axes_back p
-sums (Far p q) = axes (read_back p.x +ℤ read_back q.x) (read_back p.y +ℤ read_back q.y) (read_back p.z +ℤ read_back q.z)
-sums (Refused number place) = []
+abbrev pub sums : Told FloatPoint → List ℤ
+sums (Ok (Near p)) = axes_back p
+sums (Ok (Far p q)) = axes (read_back p.x +ℤ read_back q.x) (read_back p.y +ℤ read_back q.y) (read_back p.z +ℤ read_back q.z)
+sums (Err refusal) = []
 
 -- a far pair of d, in 02's words: a multiple of 4,096, a rest from 0 to 4,095, and their sum
 pub record FarPair (d h l : ℤ) : Type 0 where

@@ -1,13 +1,14 @@
 -- L7, is it all squares? A face with four sides and a vertex with four corners are regular, any other is irregular. The lowest irregular face, else the
 -- lowest irregular vertex, else none, with the side counts that the search reads; the call; and what the lines of `inspect` say of it.
-use Rattle.std.specs.Prelude.{◌≡◌, Bool, true, false, not, ◌&&◌, List, ℕ, ◌+◌, ltb, eqb, get_or}
+use Rattle.std.specs.Prelude.{◌≡◌, Bool, true, false, not, ◌&&◌, List, ℕ, ◌+◌, ltb, eqb, get_or, Option, Some, None, Ok, Err}
 use Rattle.paper.specs.Scan.{first_below, some_below}
 use Rattle.paper.specs.Mesh.{most_sides, Mesh, vertex_count, face_count}
 use Rattle.paper.specs.Links.{valence}
-use Rattle.paper.specs.Faults.{Verdict, sound, fault, verdict}
+use Rattle.paper.specs.Faults.{Verdict, sound, fault, verdict, Told}
 use Rattle.paper.specs.declared.Counts.{Counts}
 use Rattle.paper.specs.declared.Irregular.{Irregular}
-use Rattle.paper.specs.declared.Irregular.TheVariants.{Face, Vertex, None, Refused}
+use Rattle.paper.specs.declared.Irregular.TheVariants.{Face, Vertex}
+use Rattle.paper.specs.declared.Search.{Search}
 
 -- face f has not four sides; vertex u has not four corners
 unfoldable pub irregular_face : List ℕ → ℕ → Bool
@@ -23,11 +24,14 @@ pub data SearchCase : Type 0 where
   none_found : ℕ → SearchCase
   search_refused : ℕ → ℕ → SearchCase
 
-abbrev pub irregular_stated : Irregular → SearchCase
-irregular_stated (Face f read) = face_found f read
-irregular_stated (Vertex u read) = vertex_found u read
-irregular_stated (None read) = none_found read
-irregular_stated (Refused number place) = search_refused number place
+abbrev pub case_of : Option Irregular → ℕ → SearchCase
+case_of (Some (Face f)) read = face_found f read
+case_of (Some (Vertex u)) read = vertex_found u read
+case_of None read = none_found read
+
+abbrev pub irregular_stated : Told Search → SearchCase
+irregular_stated (Ok search) = case_of search.found search.read
+irregular_stated (Err refusal) = search_refused refusal.number refusal.place
 
 -- ---- the search
 abbrev pub pick_case : Bool → SearchCase → SearchCase → SearchCase
@@ -56,7 +60,7 @@ unfoldable pub irregular_of : Mesh → SearchCase
 irregular_of M = search_unless (verdict M) (found M)
 
 -- ---- a call on a mesh answers r
-pub record Searched (M : Mesh) (r : Irregular) : Type 0 where
+pub record Searched (M : Mesh) (r : Told Search) : Type 0 where
   pub answers : irregular_stated r ≡ irregular_of M
 
 -- ---- the lines of `inspect`, which are those of the counts
@@ -71,21 +75,19 @@ counts_faces lines = some_below (most_sides + 1) (other_line lines.sided)
 unfoldable pub counts_vertices : Counts → Bool
 counts_vertices lines = some_below (most_sides + 1) (other_line lines.cornered)
 
-abbrev pub is_face : Irregular → Bool
-is_face (Face f read) = true
-is_face (Vertex u read) = false
-is_face (None read) = false
-is_face (Refused number place) = false
+abbrev pub is_face : Option Irregular → Bool
+is_face (Some (Face f)) = true
+is_face (Some (Vertex u)) = false
+is_face None = false
 
-abbrev pub is_vertex : Irregular → Bool
-is_vertex (Face f read) = false
-is_vertex (Vertex u read) = true
-is_vertex (None read) = false
-is_vertex (Refused number place) = false
+abbrev pub is_vertex : Option Irregular → Bool
+is_vertex (Some (Face f)) = false
+is_vertex (Some (Vertex u)) = true
+is_vertex None = false
 
--- an answer agrees with the lines
-pub record Agreed (lines : Counts) (r : Irregular) : Type 0 where
+-- what a search finds agrees with the lines
+pub record Agreed (lines : Counts) (found : Option Irregular) : Type 0 where
   -- a face exactly when a later line other than 4's counts faces
-  pub faces : is_face r ≡ counts_faces lines
+  pub faces : is_face found ≡ counts_faces lines
   -- else a vertex exactly when such a line counts vertices
-  pub vertices : counts_faces lines ≡ false → is_vertex r ≡ counts_vertices lines
+  pub vertices : counts_faces lines ≡ false → is_vertex found ≡ counts_vertices lines

@@ -1,5 +1,7 @@
 -- The lists of a mesh ("Mesh tables and links"), and its limits, each number of 01 once.
 use Rattle.std.specs.Prelude.{List, ℕ, ◌*◌, ◌/◌, length, replicate, ℤ}
+use Rattle.paper.specs.declared.Lengths.{Lengths}
+use Rattle.paper.specs.declared.MeshLists.{MeshLists}
 
 -- coordinate list (x, y, z of vertex 0, then of vertex 1 ..), side counts of the faces, the corner list: the vertex of each corner, face by face;
 -- and the sharpness list: the numbers u and v of corner 0, then of corner 1 .., in sixteenths
@@ -12,6 +14,10 @@ pub record Mesh : Type 0 where
 abbrev pub mesh_of : List ℤ → List ℕ → List ℕ → List ℕ → Mesh
 mesh_of coordinates sides corners sharpness = record { coordinates = coordinates; sides = sides; corners = corners; sharpness = sharpness }
 
+-- the mesh whose lists a call takes
+abbrev pub of_lists : MeshLists → Mesh
+of_lists L = mesh_of L.coordinates.now L.sides.now L.corners.now L.sharpness.now
+
 abbrev pub vertex_count : Mesh → ℕ
 vertex_count M = length M.coordinates / 3
 
@@ -21,13 +27,7 @@ face_count M = length M.sides
 abbrev pub corner_count : Mesh → ℕ
 corner_count M = length M.corners
 
--- the lengths of a mesh's lists
-pub record Lengths : Type 0 where
-  pub coordinates : ℕ
-  pub sides : ℕ
-  pub corners : ℕ
-  pub sharpness : ℕ
-
+-- the lengths of a mesh's lists, of which `Lengths` has the fields
 abbrev pub four : ℕ → ℕ → ℕ → ℕ → Lengths
 four coordinates sides corners sharpness = record { coordinates = coordinates; sides = sides; corners = corners; sharpness = sharpness }
 

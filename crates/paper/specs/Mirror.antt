@@ -3,9 +3,8 @@ use Rattle.std.specs.Prelude.{◌≡◌, Bool, true, false, List, ℕ, ◌%◌, 
 use Rattle.paper.specs.Scan.{values_from}
 use Rattle.paper.specs.Mesh.{Mesh, mesh_of}
 use Rattle.paper.specs.Links.{link_table}
-use Rattle.paper.specs.Faults.{verdict, Accepted, link_verdict}
+use Rattle.paper.specs.Faults.{verdict, Accepted, link_verdict, done}
 use Rattle.paper.specs.Calls.{build_verdict, Built}
-use Rattle.paper.specs.declared.Answer.TheVariants.{Done}
 
 -- ---- one axis negated, 0 for x, 1 for y, 2 for z: in a list of x, y, z, x, y, z .. the numbers of that axis. Coordinate lists and outputs are such lists
 abbrev pub negated_if : Bool → ℤ → ℤ
@@ -32,4 +31,4 @@ pub record Mirror (axis : ℕ) (M : Mesh) : Type 0 where
   -- negated and the other two coordinates equal
   pub points :
       (first count : ℕ) (links links' : List ℕ) (old old' out out' : List ℤ)
-      → Built M links first count old Done out → Built (mirrored axis M) links' first count old' Done out' → out' ≡ negate_axis axis out
+      → Built M links first count old done out → Built (mirrored axis M) links' first count old' done out' → out' ≡ negate_axis axis out

@@ -2,8 +2,7 @@
 -- Chains of holders, the checks 21 to 23, the listing, and the call.
 use Rattle.std.specs.Prelude.{◌≡◌, Bool, true, false, not, ◌&&◌, ◌||◌, List, [], ◌∷◌, ◌++◌, ℕ, zero, suc, ◌<◌, leb, eqb, length, get_or, take}
 use Rattle.paper.specs.Scan.{first_below, some_below, count_below, iterate}
-use Rattle.paper.specs.Faults.{Verdict, ◌or_else◌, single, lowest_of, outside, Answered}
-use Rattle.paper.specs.declared.Answer.{Answer}
+use Rattle.paper.specs.Faults.{Verdict, ◌or_else◌, single, lowest_of, outside, Answered, Answer}
 
 abbrev pub most_bodies : ℕ
 most_bodies = 256

@@ -1,11 +1,11 @@
 -- L6, reading OFF files: the words of a text, the numbers that they are, the lists, or why the text is turned down, and the call.
-use Rattle.std.specs.Prelude.{◌≡◌, Bool, true, false, cond, not, ◌&&◌, ◌||◌, List, [], ◌∷◌, ◌++◌, ℕ, zero, suc, ◌+◌, ◌-◌, ◌*◌, leb, ltb, eqb, length, get_or, ℤ, pos, neg_ℤ, nat_abs}
+use Rattle.std.specs.Prelude.{◌≡◌, Bool, true, false, cond, not, ◌&&◌, ◌||◌, List, [], ◌∷◌, ◌++◌, ℕ, zero, suc, ◌+◌, ◌-◌, ◌*◌, leb, ltb, eqb, length, get_or, ℤ, pos, neg_ℤ, nat_abs, IfOk}
 use Rattle.std.specs.Int.Signed.{le_z}
 use Rattle.paper.specs.Scan.{values_from}
-use Rattle.paper.specs.Mesh.{most_vertices, most_faces, most_corners, Mesh, plain_mesh, Lengths, lengths_of}
-use Rattle.paper.specs.Faults.{Verdict, sound, ◌or_else◌, single, outside, verdict, stated, kept}
+use Rattle.paper.specs.Mesh.{most_vertices, most_faces, most_corners, Mesh, plain_mesh, lengths_of}
+use Rattle.paper.specs.Faults.{Verdict, sound, ◌or_else◌, single, outside, verdict, stated, kept, Told}
 use Rattle.paper.specs.File.{into}
-use Rattle.paper.specs.declared.Decoded.{Decoded}
+use Rattle.paper.specs.declared.Lengths.{Lengths}
 
 -- ---- the words of a text, a list of bytes
 -- words are parted by space, tab, carriage return and line feed
@@ -189,12 +189,9 @@ unfoldable pub text_mesh : List ℕ → Mesh
 text_mesh text = words_mesh (words_of text)
 
 -- ---- a call on a text, with lent lists that held `lent`: it answers r and leaves `lists`
-pub record OffRead (text : List ℕ) (lent : Mesh) (r : Decoded) (lists : Mesh) : Type 0 where
-  pub answers : stated r.answer ≡ off_verdict text (lengths_of lent)
-  -- the four lengths, 0 beside a refusal
-  pub coordinates_length : r.coordinates ≡ kept (stated r.answer) (length (text_mesh text).coordinates) 0
-  pub sides_length : r.sides ≡ kept (stated r.answer) (length (text_mesh text).sides) 0
-  pub corners_length : r.corners ≡ kept (stated r.answer) (length (text_mesh text).corners) 0
-  pub sharpness_length : r.sharpness ≡ kept (stated r.answer) (length (text_mesh text).sharpness) 0
+pub record OffRead (text : List ℕ) (lent : Mesh) (r : Told Lengths) (lists : Mesh) : Type 0 where
+  pub answers : stated r ≡ off_verdict text (lengths_of lent)
+  -- the four lengths
+  pub lengths : IfOk r (λ l. l ≡ lengths_of (text_mesh text))
   -- the lists fill the beginnings of the lent ones, whose further entries keep their contents; after a refusal all do
-  pub holds : lists ≡ kept (stated r.answer) (into (text_mesh text) lent) lent
+  pub holds : lists ≡ kept (stated r) (into (text_mesh text) lent) lent

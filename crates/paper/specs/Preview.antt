@@ -5,10 +5,9 @@ use Rattle.paper.specs.Scan.{pick_n, some_below, values_from}
 use Rattle.paper.specs.Mesh.{Mesh, mesh_of, vertex_count, corner_count}
 use Rattle.paper.specs.Corners.{face_of}
 use Rattle.paper.specs.Links.{vertex_of, names}
-use Rattle.paper.specs.Faults.{Verdict, ◌or_else◌, single, verdict, Answered}
+use Rattle.paper.specs.Faults.{Verdict, ◌or_else◌, single, verdict, Answered, Answer}
 use Rattle.paper.specs.File.{no_room}
 use Rattle.paper.specs.Calls.{nets, build_verdict}
-use Rattle.paper.specs.declared.Answer.{Answer}
 use Rattle.paper.specs.declared.Move.{Move}
 
 abbrev pub move_of : ℕ → ℤ → ℤ → ℤ → Move

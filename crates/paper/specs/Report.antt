@@ -1,13 +1,12 @@
 -- L14, the yearly border report: a page, the next page of a page and a file, what a run of files leaves, and two pages as one.
-use Rattle.std.specs.Prelude.{◌≡◌, Bool, true, false, not, ◌||◌, List, [], ◌∷◌, ◌++◌, ℕ, zero, suc, ◌+◌, ◌*◌, ◌^◌, ◌<◌, max, ltb, leb, eqb, length, get_or, replicate, set, ℤ, nat_abs}
+use Rattle.std.specs.Prelude.{◌≡◌, Bool, true, false, not, ◌||◌, List, [], ◌∷◌, ◌++◌, ℕ, zero, suc, ◌+◌, ◌*◌, ◌^◌, ◌<◌, max, ltb, leb, eqb, length, get_or, replicate, set, ℤ, nat_abs, IfOk}
 use Rattle.paper.specs.Scan.{pick_n, values_from}
 use Rattle.paper.specs.Mesh.{Mesh, corner_count}
-use Rattle.paper.specs.Faults.{Verdict, sound, fault, ◌or_else◌, single, stated, kept}
+use Rattle.paper.specs.Faults.{Verdict, sound, fault, ◌or_else◌, single, stated, kept, Told}
 use Rattle.paper.specs.Net.{Side, side0, side1, side2, side3, across}
 use Rattle.paper.specs.File.{file_of, file_mesh, file_verdict}
 use Rattle.paper.specs.Borders.{output_of, beside, miss, first, second, third, fourth}
 use Rattle.paper.specs.declared.Page.{Page}
-use Rattle.paper.specs.declared.Reported.{Reported}
 
 -- ---- the page: meshes offered, corners built, borders met, refusals under each of 1 to 13 and 28, and for each of the four conditions the largest
 -- miss; 21 numbers
@@ -130,9 +129,9 @@ unfoldable pub page_after : Page → Offered → Page
 page_after P F = kept (page_verdict P) (added P (mesh_in F) (verdict_in F)) P
 
 -- a call of the report with this page and this file
-pub record ReportedTo (P : Page) (F : Offered) (r : Reported) : Type 0 where
-  pub answers : stated r.answer ≡ page_verdict P
-  pub holds : r.page ≡ page_after P F
+pub record ReportedTo (P : Page) (F : Offered) (r : Told Page) : Type 0 where
+  pub answers : stated r ≡ page_verdict P
+  pub holds : IfOk r (λ next. next ≡ page_after P F)
 
 -- ---- a run: the page after one file goes to the next call
 abbrev pub run : Page → List Offered → Page
@@ -201,6 +200,6 @@ merged P Q = page_with
 unfoldable pub merge_verdict : Page → Page → Verdict
 merge_verdict P Q = single 37 (ltb most_meshes (P.meshes + Q.meshes)) most_meshes or_else single 38 (fault38 P || fault38 Q) 0
 
-pub record MergedTo (P Q : Page) (r : Reported) : Type 0 where
-  pub answers : stated r.answer ≡ merge_verdict P Q
-  pub holds : r.page ≡ kept (merge_verdict P Q) (merged P Q) P
+pub record MergedTo (P Q : Page) (r : Told Page) : Type 0 where
+  pub answers : stated r ≡ merge_verdict P Q
+  pub holds : IfOk r (λ sum. sum ≡ merged P Q)

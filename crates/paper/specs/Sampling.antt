@@ -1,15 +1,13 @@
 -- L12, "Sampling a patch": the point at weights i/N, j/N, k/N of one of a quad-net's four triangles, numbered by side. The triangle's control
 -- points, the quartic Bernstein sum, the checks 32 and 33, the call for one sample, and the one for all samples of a triangle.
 use Rattle.std.specs.Prelude.{◌≡◌, Bool, not, ◌||◌, List, [], ◌++◌, ℕ, zero, suc, ◌+◌, ◌-◌, ◌*◌, ◌/◌, ◌^◌, ◌≤◌, ltb, eqb, length, get_or, take, drop, ℤ, pos, ◌*ℤ◌, ◌≤ℤ◌}
-use Rattle.paper.specs.Faults.{Verdict, ◌or_else◌, single, outside, Answered}
+use Rattle.paper.specs.Faults.{Verdict, ◌or_else◌, single, outside, Answered, Answer, done}
 use Rattle.paper.specs.Numbers.{round, sum}
 use Rattle.paper.specs.Net.{Side, side0, side1, side2, side3, b, a, outer_row, a_row}
 use Rattle.paper.specs.Calls.{per_corner}
 use Rattle.paper.specs.File.{no_room, begins}
 use Rattle.paper.specs.Floats.{net_verdict, axes}
 use Rattle.paper.specs.Borders.{Output}
-use Rattle.paper.specs.declared.Answer.{Answer}
-use Rattle.paper.specs.declared.Answer.TheVariants.{Done}
 
 -- ---- a triangle's control points, in rows from the side inwards and each row from the head; p has the 41 points of a quad-net
 module _ {A : Type 0} (p : ℕ → A) where
@@ -140,7 +138,7 @@ net_in O c = take per_corner (drop (per_corner * (c - O.first)) O.numbers)
 abbrev pub Alike : List ℤ → Side → List ℤ → Side → Weights → Type 0
 Alike net s other t w =
     (old old' out out' : List ℤ) (r r' : Answer) → Sampled net (side_number s) w old r out → Sampled other (side_number t) w old' r' out'
-    → (r ≡ r') × (r ≡ Done → out ≡ out')
+    → (r ≡ r') × (r ≡ done → out ≡ out')
 
 -- a control point as x, y, z
 abbrev pub control_point : List ℤ → Side → ℕ → ℕ → List ℤ
@@ -148,7 +146,7 @@ control_point numbers s n q = axes (control (on_axis numbers 0) s n q) (control 
 
 -- a call with the weights w leaves this point
 abbrev pub Leaves : List ℤ → Side → Weights → List ℤ → Type 0
-Leaves numbers s w point = (old out : List ℤ) → Sampled numbers (side_number s) w old Done out → out ≡ point
+Leaves numbers s w point = (old out : List ℤ) → Sampled numbers (side_number s) w old done out → out ≡ point
 
 -- z lies between the least and the largest of the triangle's 15 coordinates: within every bounds that they keep
 abbrev pub Between : (ℕ → ℤ) → Side → ℤ → Type 0

@@ -2,11 +2,11 @@
 -- weights i/N, j/N, k/N. The first goes towards the side's tail: by the tail's weight, where the head's weight falls as it rises. The second goes towards the
 -- centre: by the centre's weight, where the head's weight falls as it rises. Times N^3 they are whole numbers, so that nothing is rounded: four times the cubic
 -- Bernstein sum of the differences between control points that lie next to each other.
-use Rattle.std.specs.Prelude.{◌≡◌, List, ◌++◌, ℕ, ◌+◌, ◌-◌, ◌*◌, ◌/◌, ◌%◌, ◌^◌, ltb, eqb, length, get_or, ℤ, pos, ◌-ℤ◌, ◌*ℤ◌}
+use Rattle.std.specs.Prelude.{◌≡◌, List, ◌++◌, ℕ, ◌+◌, ◌-◌, ◌*◌, ◌/◌, ◌%◌, ◌^◌, ltb, eqb, length, get_or, ℤ, pos, ◌-ℤ◌, ◌*ℤ◌, IfOk}
 use Rattle.paper.specs.Scan.{pick_n, values_from}
 use Rattle.paper.specs.Mesh.{Mesh}
 use Rattle.paper.specs.Corners.{face_of, position_of}
-use Rattle.paper.specs.Faults.{Verdict, ◌or_else◌, single, stated, kept, Answered}
+use Rattle.paper.specs.Faults.{Verdict, ◌or_else◌, single, stated, kept, Answered, Answer, Told}
 use Rattle.paper.specs.Numbers.{sum}
 use Rattle.paper.specs.Net.{Side}
 use Rattle.paper.specs.Calls.{nets}
@@ -14,8 +14,6 @@ use Rattle.paper.specs.File.{no_room, begins}
 use Rattle.paper.specs.Floats.{axes}
 use Rattle.paper.specs.Sampling.{control, factorial, on_axis, Weights, sample_verdict, side_at}
 use Rattle.paper.specs.Triangles.{turn_weights, groups, level, segments, point_groups, owned, points_before, level_verdict}
-use Rattle.paper.specs.declared.Answer.{Answer}
-use Rattle.paper.specs.declared.Tangents.{Tangents}
 
 -- ---- the cubic Bernstein sum: the difference beside the powers l, m, n of the three weights, which sum to 3, counts 3!/(l! m! n!) times
 unfoldable pub cubic_bernstein : ℕ → ℕ → ℕ → ℕ → ℕ → ℕ → ℕ
@@ -84,7 +82,7 @@ tangent_verdict M links first count levels room =
 
 -- ---- a call for the tangents of `count` corners from `first` on, beside that for the triangles, with a lent list that held `old`: it answers r and leaves
 -- `tangents`. It writes the beginning, and the further entries keep their contents
-pub record TangentsFilled (M : Mesh) (links levels : List ℕ) (first count : ℕ) (old : List ℤ) (r : Tangents) (tangents : List ℤ) : Type 0 where
-  pub answers : stated r.answer ≡ tangent_verdict M links first count levels (length old)
-  pub numbers_are : r.numbers ≡ kept (stated r.answer) (length (tangent_list M levels first count)) 0
-  pub holds : tangents ≡ kept (stated r.answer) (begins (tangent_list M levels first count) old) old
+pub record TangentsFilled (M : Mesh) (links levels : List ℕ) (first count : ℕ) (old : List ℤ) (r : Told ℕ) (tangents : List ℤ) : Type 0 where
+  pub answers : stated r ≡ tangent_verdict M links first count levels (length old)
+  pub numbers_are : IfOk r (λ n. n ≡ length (tangent_list M levels first count))
+  pub holds : tangents ≡ kept (stated r) (begins (tangent_list M levels first count) old) old

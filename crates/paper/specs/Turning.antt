@@ -1,13 +1,12 @@
 -- L13, faces drawn the wrong way round: turning faces, choices of turns, faces connected through shared edges, the checks 34 to 36, the choice
 -- that is made, and the call.
-use Rattle.std.specs.Prelude.{◌≡◌, Bool, true, false, cond, not, ◌&&◌, ◌||◌, List, [], ◌∷◌, ℕ, zero, suc, ◌+◌, ◌-◌, ◌*◌, ◌/◌, ◌%◌, eqb, length, get_or}
+use Rattle.std.specs.Prelude.{◌≡◌, Bool, true, false, cond, not, ◌&&◌, ◌||◌, List, [], ◌∷◌, ℕ, zero, suc, ◌+◌, ◌-◌, ◌*◌, ◌/◌, ◌%◌, eqb, length, get_or, IfOk}
 use Rattle.paper.specs.Scan.{pick_n, first_below, some_below, count_below, values_from}
 use Rattle.paper.specs.Mesh.{Mesh, mesh_of, face_count, corner_count}
 use Rattle.paper.specs.Corners.{face_of, first_of, sides_of, position_of}
 use Rattle.paper.specs.Links.{vertex_of, same_edge, reverse_edge}
-use Rattle.paper.specs.Faults.{Verdict, ◌or_else◌, single, lowest_of, fault10, fault11, list_faults, stated, kept}
+use Rattle.paper.specs.Faults.{Verdict, ◌or_else◌, single, lowest_of, fault10, fault11, list_faults, stated, kept, Told}
 use Rattle.paper.specs.File.{begins}
-use Rattle.paper.specs.declared.Turned.{Turned}
 
 -- ---- turning. A choice of turns, t, says of each face whether it is turned.
 -- A face turned has its corner order reversed after the first corner: the corner that comes to the place of c
@@ -131,11 +130,11 @@ turn_verdict M n = single 36 (fault36 M n) n or_else list_faults M or_else turn_
 
 -- ---- a call on the lists M and a lent listing that held `old`. It answers r, and leaves `lists`, of which corner list and sharpness list were
 -- lent, and `out`
-pub record TurnedTo (M : Mesh) (old : List ℕ) (r : Turned) (lists : Mesh) (out : List ℕ) : Type 0 where
-  pub answers : stated r.answer ≡ turn_verdict M (length old)
-  -- how many faces are turned, 0 beside a refusal
-  pub counts : r.turned ≡ kept (stated r.answer) (length (turned_faces M)) 0
+pub record TurnedTo (M : Mesh) (old : List ℕ) (r : Told ℕ) (lists : Mesh) (out : List ℕ) : Type 0 where
+  pub answers : stated r ≡ turn_verdict M (length old)
+  -- how many faces are turned
+  pub counts : IfOk r (λ turned. turned ≡ length (turned_faces M))
   -- the turned model stands in the lent lists; after a refusal they keep theirs
-  pub holds : lists ≡ kept (stated r.answer) (turned_mesh M (turns_of M)) M
+  pub holds : lists ≡ kept (stated r) (turned_mesh M (turns_of M)) M
   -- the turned faces fill the beginning of the listing, its further entries keep their contents; after a refusal all do
-  pub listing_holds : out ≡ kept (stated r.answer) (begins (turned_faces M) old) old
+  pub listing_holds : out ≡ kept (stated r) (begins (turned_faces M) old) old

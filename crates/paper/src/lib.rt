@@ -26,6 +26,16 @@ pub const MOST_NUMBERS: usize = 3 * MOST_VERTICES;
 
 pub const MOST_PAIRS: usize = SHARPNESS_PER_CORNER * MOST_CORNERS;
 
+// A mesh's four lists, as a call takes them: x, y, z of each vertex; the side count of each face; the vertex of each corner, face by face; the sharpness
+// numbers u and v of each corner.
+#[derive(Clone, Copy)]
+pub struct MeshLists<'a> {
+    pub coordinates: &'a [i32],
+    pub sides: &'a [u8],
+    pub corners: &'a [u16],
+    pub sharpness: &'a [u8],
+}
+
 // What stands for 1 in the cosine table.
 pub const UNIT: i64 = 1073741824;
 
@@ -40,11 +50,13 @@ pub const SUN: u16 = 65535;
 // The most parts of a side of a triangle that is sampled.
 pub const MOST_PARTS: usize = 16;
 
-// What a check, linking and building answer: done, or refused with 01's number and place.
-#[derive(Clone, Copy)]
-pub enum Answer {
-    Done,
-    Refused(u8, usize),
+// Why an input is turned down: 01's number, or that of a later request, and its place. A call that can be turned down answers a `Result` with it.
+// The number is no enum: `telling::tell`, `lines::put_summary`, `lines::put_refusal` and `pages::refuse` promise what they do for each u8, and an enum of
+// 01's numbers would ask more of their callers.
+#[derive(Clone, Copy, Debug, PartialEq, Eq)]
+pub struct Refusal {
+    pub number: u8,
+    pub place: usize,
 }
 
 // The number of a refusal that is our own, for a lent list that is too short; and that of L9, for a vertex that the mesh does not have.
@@ -65,17 +77,9 @@ pub struct Counts {
     pub sided: [u16; NUMBERS],
 }
 
-// What `survey` answers: done or refused, and the counts, all zero beside a refusal.
+// The lengths of a mesh's four lists, as `dms::decode` and `off::read` answer them.
 #[derive(Clone, Copy)]
-pub struct Summary {
-    pub answer: Answer,
-    pub counts: Counts,
-}
-
-// What `dms::decode` and `off::read` answer: done or refused, and the lengths of the four lists, zero beside a refusal.
-#[derive(Clone, Copy)]
-pub struct Decoded {
-    pub answer: Answer,
+pub struct Lengths {
     pub coordinates: usize,
     pub sides: usize,
     pub corners: usize,
@@ -90,23 +94,26 @@ pub struct Floats {
     pub z: f32,
 }
 
-// What `floats::point` answers: a near point; a far one, with the first floats of its pairs and the second ones; or refused with 02's
-// number and place.
+// A point as `floats::point` answers it: a near one, or a far one, with the first floats of its pairs and the second ones.
 #[derive(Clone, Copy)]
 pub enum FloatPoint {
     Near(Floats),
     Far(Floats, Floats),
-    Refused(u8, usize),
 }
 
-// What `irregular::search` answers: the lowest face that has not four sides, else the lowest vertex that has not four corners, else none,
-// each with the number of side counts that the search read; or refused with 01's number and place.
+// A face that has not four sides, or a vertex that has not four corners.
 #[derive(Clone, Copy)]
 pub enum Irregular {
-    Face(usize, usize),
-    Vertex(usize, usize),
-    None(usize),
-    Refused(u8, usize),
+    Face(usize),
+    Vertex(usize),
+}
+
+// What `irregular::search` finds: the lowest irregular face, else the lowest irregular vertex, if there is one; and the number of side counts that the
+// search read.
+#[derive(Clone, Copy)]
+pub struct Search {
+    pub found: Option<Irregular>,
+    pub read: usize,
 }
 
 // A vertex, and the three coordinates that it is to have.
@@ -116,13 +123,6 @@ pub struct Move {
     pub x: i32,
     pub y: i32,
     pub z: i32,
-}
-
-// What `turning::turn` answers: done or refused, and how many faces were turned, 0 beside a refusal.
-#[derive(Clone, Copy)]
-pub struct Turned {
-    pub answer: Answer,
-    pub turned: usize,
 }
 
 // The most meshes that a page counts, and the most that a number on it may be.
@@ -148,24 +148,9 @@ pub struct Page {
     pub misses: [u64; CONDITIONS],
 }
 
-// What `border_report::report` and `pages::merge` answer: done or refused, and the next page, or the page as it was.
-#[derive(Clone, Copy)]
-pub struct Reported {
-    pub answer: Answer,
-    pub page: Page,
-}
-
-// What the call for triangles answers: done or refused, and how many numbers of points and of triangles there are, 0 beside a refusal.
+// How many numbers of points and of triangles a call for triangles writes.
 #[derive(Clone, Copy)]
 pub struct Triangles {
-    pub answer: Answer,
     pub points: usize,
     pub triangles: usize,
-}
-
-// What the call for tangents answers: done or refused, and how many numbers there are, 0 beside a refusal.
-#[derive(Clone, Copy)]
-pub struct Tangents {
-    pub answer: Answer,
-    pub numbers: usize,
 }

@@ -6,8 +6,7 @@ use Rattle.paper.specs.Corners.{next}
 use Rattle.mesh.specs.Tables.{Named}
 use Rattle.walk.specs.Table.{row_length, to_next, entry, Column, Blank}
 use Rattle.paper.specs.Links.{vertex_of, leaves_to}
-use Rattle.paper.specs.Faults.{sound, lowest_of, stated}
-use Rattle.paper.specs.declared.Answer.{Answer}
+use Rattle.paper.specs.Faults.{sound, lowest_of, stated, Answer}
 use Rattle.checks.specs.columns.Chain.{Chained}
 use Rattle.paper.specs.Turning.{fault34}
 use Rattle.partners.specs.Partner.{partner}

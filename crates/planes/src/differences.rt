@@ -3,25 +3,13 @@ ghost use Rattle.std.specs.Prelude.{◌≡◌, ◌+◌, ◌-◌, ◌*◌, ◌%�
 ghost use Rattle.paper.specs.Archive.{stored_at};
 ghost use Rattle.planes.specs.differences.Deltas.{delta_at, OneRestored};
 
-use dms_lists::lists::{bits, signed};
-
 // The difference at a position after the first vertex.
 pub fn delta_at(numbers: &[i32], i: usize) -> u32
     requires { (3 ≤ i) × (i < length numbers.now) }
     ensures { result ≡ delta_at numbers.now i }
 {
-    difference(bits(numbers[i]), bits(numbers[i - 3]))
-}
-
-// a - b, wrapping in 32 bits.
-fn difference(a: u32, b: u32) -> u32
-    ensures { result ≡ (a + (2 ^ 32 - b)) % 2 ^ 32 }
-{
-    if b <= a {
-        a - b
-    } else {
-        a + (u32::MAX - b) + 1
-    }
+    let before = numbers[i - 3].cast_unsigned();
+    numbers[i].cast_unsigned().wrapping_sub(before)
 }
 
 // Restores the number at a position, from the sum on its axis of the vertex before; answers the new sum.
@@ -30,9 +18,9 @@ pub fn restore_at(bytes: &[u8], n: usize, numbers: &mut [i32], i: usize, before:
     ensures { OneRestored bytes.now n numbers.old i before result numbers.new }
 {
     let d = stored(bytes, n, i);
-    let sum = std::num::wrapping_add_u32(before, d);
-    numbers[i] = signed(sum);
-    return sum;
+    let sum = before.wrapping_add(d);
+    numbers[i] = sum.cast_signed();
+    sum
 }
 
 // The difference whose bytes stand at a position of the four planes.
@@ -40,15 +28,5 @@ fn stored(bytes: &[u8], n: usize, i: usize) -> u32
     requires { (i < n) × (length bytes.now ≡ 4 * n) }
     ensures { result ≡ stored_at bytes.now n i }
 {
-    let low = wide(bytes[i]);
-    let second = wide(bytes[n + i]);
-    let third = wide(bytes[2 * n + i]);
-    let high = wide(bytes[3 * n + i]);
-    low + 256 * second + 65536 * third + 16777216 * high
-}
-
-fn wide(byte: u8) -> u32
-    ensures { (result ≡ byte) × (result < 256) }
-{
-    byte as u32
+    u32::from_le_bytes([bytes[i], bytes[n + i], bytes[2 * n + i], bytes[3 * n + i]])
 }

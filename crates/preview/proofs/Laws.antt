@@ -11,13 +11,11 @@ use lib.Seq.{take_at, set-append_left}
 use lib.IntN.{ℤ}
 use borrow.Author.Tests.{eqb-true, lt-ltb, le-leb, lt-leb}
 use Rattle.paper.specs.Mesh.{most_vertices, Mesh, vertex_count}
-use Rattle.paper.specs.Faults.{fault, outside, fault4, list_faults, verdict, link_verdict}
+use Rattle.paper.specs.Faults.{fault, outside, fault4, list_faults, verdict, link_verdict, Answer, done}
 use Rattle.paper.specs.File.{begins}
 use Rattle.paper.specs.Calls.{build_verdict, Built}
-use Rattle.paper.specs.declared.Answer.{Answer}
-use Rattle.paper.specs.declared.Answer.TheVariants.{Done, Refused}
 use Rattle.mesh.proofs.Scans.{ways}
-use Rattle.mesh.proofs.Verdicts.{or_else_fault, or_else_sound, single_hit, single_miss, sound_right}
+use Rattle.mesh.proofs.Verdicts.{or_else_fault, or_else_sound, single_hit, single_miss, sound_right, refusing}
 use Rattle.paper.specs.declared.Move.{Move}
 use Rattle.paper.specs.Preview.{moved_list, moved, fault29, preview_verdict, Previewed}
 
@@ -72,7 +70,7 @@ long_four n f c h =
 
 -- ---- the ways out
 module _ (M : Mesh) (m : Move) (links : List ℕ) (first count : ℕ) (old : List ℤ) where
-  pub preview_none : vertex_count M ≤ m.vertex → Previewed M m links first count old (Refused 29 m.vertex) old
+  pub preview_none : vertex_count M ≤ m.vertex → Previewed M m links first count old (refusing 29 m.vertex) old
   unfolding preview_verdict fault29
   preview_none h = record { answers = sym (or_else_fault 29 m.vertex _ (single_hit 29 m.vertex (le-leb _ _ h))); holds = refl }
 
@@ -95,10 +93,10 @@ module _ (M : Mesh) (m : Move) (links : List ℕ) (first count : ℕ) (old : Lis
     preview_as r out p = record { answers = p.answers ∙ preview_is; holds = p.holds }
 
     -- a list that is longer than any mesh's is 4
-    pub preview_long : 3 * most_vertices < length M.coordinates → Previewed M m links first count old (Refused 4 0) old
-    preview_long l = preview_built (Refused 4 0) old (record { answers = sym (long_verdict l); holds = refl })
+    pub preview_long : 3 * most_vertices < length M.coordinates → Previewed M m links first count old (refusing 4 0) old
+    preview_long l = preview_built (refusing 4 0) old (record { answers = sym (long_verdict l); holds = refl })
 
   -- ---- one that is not refused has passed 29
-  pub preview_done : (out : List ℤ) → Previewed M m links first count old Done out → Built (moved M m) links first count old Done out
+  pub preview_done : (out : List ℤ) → Previewed M m links first count old done out → Built (moved M m) links first count old done out
   unfolding preview_verdict
   preview_done out p = record { answers = sym (sound_right _ _ (sym p.answers)); holds = p.holds }

@@ -8,8 +8,9 @@ use native.Mathlib.Omega.{arith}
 use borrow.Author.Tests.{eq-eqb, ne_eqb}
 use lib.ListN.{length}
 use lib.IntN.{ℤ}
-use Rattle.paper.specs.Faults.{sound, fault}
-use Rattle.paper.specs.declared.Answer.TheVariants.{Done, Refused}
+use Rattle.std.specs.Prelude.{Err}
+use Rattle.paper.specs.declared.Refusal.{Refusal}
+use Rattle.paper.specs.Faults.{sound, fault, done}
 use Rattle.mesh.proofs.Verdicts.{or_else_fault, or_else_sound, single_hit, single_miss}
 use Rattle.paper.specs.Archive.{fault30, fault31, archive_verdict, archived, restored, Archived, Restored}
 
@@ -34,15 +35,15 @@ module _ (n m : ℕ) where
 
 -- ---- the calls
 module _ (numbers : List ℤ) (old : List ℕ) where
-  pub archive_refused : (k p : ℕ) → fault k p ≡ archive_verdict (length numbers) (length old) → Archived numbers old (Refused k p) old
-  archive_refused k p e = record { answers = e; holds = refl }
+  pub archive_refused : (x : Refusal) → fault x.number x.place ≡ archive_verdict (length numbers) (length old) → Archived numbers old (Err x) old
+  archive_refused x e = record { answers = e; holds = refl }
 
-  pub archive_done : (out : List ℕ) → archive_verdict (length numbers) (length old) ≡ sound → out ≡ archived numbers → Archived numbers old Done out
+  pub archive_done : (out : List ℕ) → archive_verdict (length numbers) (length old) ≡ sound → out ≡ archived numbers → Archived numbers old done out
   archive_done out e h = record { answers = sym e; holds = h }
 
 module _ (bytes : List ℕ) (old : List ℤ) where
-  pub restore_refused : (k p : ℕ) → fault k p ≡ archive_verdict (length old) (length bytes) → Restored bytes old (Refused k p) old
-  restore_refused k p e = record { answers = e; holds = refl }
+  pub restore_refused : (x : Refusal) → fault x.number x.place ≡ archive_verdict (length old) (length bytes) → Restored bytes old (Err x) old
+  restore_refused x e = record { answers = e; holds = refl }
 
-  pub restore_done : (out : List ℤ) → archive_verdict (length old) (length bytes) ≡ sound → out ≡ restored bytes (length old) → Restored bytes old Done out
+  pub restore_done : (out : List ℤ) → archive_verdict (length old) (length bytes) ≡ sound → out ≡ restored bytes (length old) → Restored bytes old done out
   restore_done out e h = record { answers = sym e; holds = h }

@@ -3,7 +3,6 @@ ghost use Rattle.std.specs.Prelude.{◌≡◌, ◌+◌, ◌-◌, ◌*◌, ◌%�
 ghost use Rattle.paper.specs.Archive.{archived};
 ghost use Rattle.planes.specs.Planes.{Planed, spread};
 
-use dms_lists::lists::bits;
 use planes::differences::delta_at;
 use planes::{put, put_four};
 
@@ -30,9 +29,9 @@ fn put_first(numbers: &[i32], bytes: &mut [u8], n: usize)
     requires { (3 ≤ n) × (n ≡ length numbers.now) × (length bytes.old ≡ 4 * length numbers.now) }
     ensures { Planed numbers.now 3 bytes.new }
 {
-    put_number(bytes, n, 0, bits(numbers[0]));
-    put_number(bytes, n, 1, bits(numbers[1]));
-    put_number(bytes, n, 2, bits(numbers[2]));
+    put_number(bytes, n, 0, numbers[0].cast_unsigned());
+    put_number(bytes, n, 1, numbers[1].cast_unsigned());
+    put_number(bytes, n, 2, numbers[2].cast_unsigned());
 }
 
 // Then four numbers at a time, as far as there are four.
@@ -41,10 +40,8 @@ fn fill_fours(numbers: &[i32], bytes: &mut [u8])
     ensures { Planed numbers.now (length numbers.now - (length numbers.now - 3) % 4) bytes.new }
 {
     let n = numbers.len();
-    let mut i = 3;
-    while i + 4 <= n {
-        put_four(numbers, bytes, i);
-        i += 4;
+    for k in 0..(n - 3) / 4 {
+        put_four(numbers, bytes, 3 + 4 * k);
     }
 }
 
@@ -55,10 +52,8 @@ fn fill_rest(numbers: &[i32], bytes: &mut [u8])
 {
     let n = numbers.len();
     let rest = (n - 3) % 4;
-    let mut k = 0;
-    while k < rest {
-        put_next(numbers, bytes, n - rest + k);
-        k += 1;
+    for i in n - rest..n {
+        put_next(numbers, bytes, i);
     }
 }
 

@@ -13,10 +13,8 @@ pub fn read_numbers(bytes: &[u8], numbers: &mut [i32])
     requires { 4 * length numbers.old ≤ length bytes.now }
     ensures { numbers.new ≡ values_from (number_in bytes.now) 0 (length numbers.old) }
 {
-    let mut i = 0;
-    while i < numbers.len() {
+    for i in 0..numbers.len() {
         numbers[i] = dms_lists::lists::coordinate(bytes, 4 * i);
-        i += 1;
     }
 }
 
@@ -25,10 +23,7 @@ pub fn write_numbers(numbers: &[i32], bytes: &mut [u8])
     requires { length bytes.old ≡ 4 * length numbers.now }
     ensures { NumbersStored numbers.now (length numbers.now) bytes.new }
 {
-    let mut i = 0;
-    while i < numbers.len() {
-        let d = dms_lists::lists::bits(numbers[i]);
-        planes::put(bytes, 1, 4 * i, d, d / 256, d / 65536, d / 16777216);
-        i += 1;
+    for (i, number) in numbers.iter().enumerate() {
+        bytes[4 * i..4 * i + 4].copy_from_slice(&number.to_le_bytes());
     }
 }

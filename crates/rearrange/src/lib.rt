@@ -10,44 +10,41 @@ ghost use Rattle.std.specs.Prelude.{◌≡◌};
 ghost use Rattle.paper.specs.Faults.{stated};
 ghost use Rattle.paper.specs.Archive.{archive_verdict, Archived, Restored};
 
-use paper::Answer;
+use paper::Refusal;
 
 // The bytes of the differences, plane by plane. Nothing is written before both checks have passed.
-pub fn archive(numbers: &[i32], bytes: &mut [u8]) -> Answer
+pub fn archive(numbers: &[i32], bytes: &mut [u8]) -> Result<(), Refusal>
     ensures { Archived numbers.now bytes.old result bytes.new }
 {
-    let a = check_lengths(numbers.len(), bytes.len());
-    if let Answer::Refused(k, p) = a {
-        return Answer::Refused(k, p);
-    }
+    check_lengths(numbers.len(), bytes.len())?;
     crate::archiving::fill_planes(numbers, bytes);
-    Answer::Done
+    Ok(())
 }
 
 // The numbers whose differences have these bytes.
-pub fn restore(bytes: &[u8], numbers: &mut [i32]) -> Answer
+pub fn restore(bytes: &[u8], numbers: &mut [i32]) -> Result<(), Refusal>
     ensures { Restored bytes.now numbers.old result numbers.new }
 {
-    let a = check_lengths(numbers.len(), bytes.len());
-    if let Answer::Refused(k, p) = a {
-        return Answer::Refused(k, p);
-    }
+    check_lengths(numbers.len(), bytes.len())?;
     crate::restoring::fill_numbers(bytes, numbers);
-    Answer::Done
+    Ok(())
 }
 
 // Checks 30 and 31, of the lengths of number list and byte list.
-fn check_lengths(numbers: usize, bytes: usize) -> Answer
+fn check_lengths(numbers: usize, bytes: usize) -> Result<(), Refusal>
     ensures { stated result ≡ archive_verdict numbers bytes }
 {
     if numbers % 3 != 0 {
-        return Answer::Refused(30, numbers);
+        return Err(Refusal {
+            number: 30,
+            place: numbers,
+        });
     }
-    if bytes % 4 != 0 {
-        return Answer::Refused(31, bytes);
+    if bytes % 4 != 0 || bytes / 4 != numbers {
+        return Err(Refusal {
+            number: 31,
+            place: bytes,
+        });
     }
-    if bytes / 4 != numbers {
-        return Answer::Refused(31, bytes);
-    }
-    Answer::Done
+    Ok(())
 }

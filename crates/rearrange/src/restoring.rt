@@ -35,11 +35,9 @@ fn fill_vertices(bytes: &[u8], numbers: &mut [i32])
     let mut x: u32 = 0;
     let mut y: u32 = 0;
     let mut z: u32 = 0;
-    let mut v = 0;
-    while v < n / 3 {
+    for v in 0..n / 3 {
         x = restore_at(bytes, n, numbers, 3 * v, x);
         y = restore_at(bytes, n, numbers, 3 * v + 1, y);
         z = restore_at(bytes, n, numbers, 3 * v + 2, z);
-        v += 1;
     }
 }

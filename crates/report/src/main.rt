@@ -4,10 +4,9 @@
 // read is named on standard error and not counted. A refusal goes there too, and leaves standard output empty.
 ghost use Rattle.std.specs.Prelude.{◌≤◌, ◌<◌, length};
 
-use line_input::next_line;
+use line_input::{LineError, next_line};
 use lines::complain_refusal;
-use page_text::begins;
-use paper::{Answer, NUMBERS_ON_PAGE, Reported};
+use paper::{NUMBERS_ON_PAGE, Page, Refusal};
 use print::file_input::{BUFFER, read_file};
 use std::fs::File;
 use std::io::IsTerminal;
@@ -25,132 +24,124 @@ const LINE: usize = 8192;
 // The most lines of standard input: more than there are.
 const MOST_LINES: u64 = 4294967296;
 
+// The run ends without a page. Why was said on standard error.
+#[derive(Clone, Copy)]
+struct Ended;
+
+impl From<LineError> for Ended {
+    fn from(_error: LineError) -> Ended {
+        Ended
+    }
+}
+
 fn main(rt: HostRuntime) {
-    let mut numbers = [0u64; NUMBERS_ON_PAGE];
-    if fill_page(rt, &mut numbers) {
-        say_page(rt, &numbers);
+    let mut page = page_numbers::read(&[0; NUMBERS_ON_PAGE]);
+    if fill_page(rt, &mut page).is_ok() {
+        say_page(rt, page);
     }
 }
 
 // Writes the page to standard output, in one write.
-fn say_page(rt: HostRuntime, numbers: &[u64; NUMBERS_ON_PAGE]) {
+fn say_page(rt: HostRuntime, page: Page) {
     let mut lines = [0u8; page_text::ROOM];
-    let end = page_text::put_page(&mut lines, numbers);
+    let numbers = page_numbers::numbers(page);
+    let end = page_text::put_page(&mut lines, &numbers);
     say_up_to(rt, &lines, end);
 }
 
-// The page that the arguments ask, from the all-zero one; answers whether there is one.
-fn fill_page(rt: HostRuntime, numbers: &mut [u64; NUMBERS_ON_PAGE]) -> bool {
+// The page that the arguments ask, from the all-zero one.
+fn fill_page(rt: HostRuntime, page: &mut Page) -> Result<(), Ended> {
     let shown = rt.stderr().is_terminal();
     let count = arguments::count(rt);
     let merging = asks_merge(rt);
     if 1 < count && !merging {
-        return offer_arguments(rt, count, numbers, shown);
+        return offer_arguments(rt, count, page, shown);
     }
     if 2 < count {
         complain(rt, b"usage: report [FILE ..], or report merge\n");
-        return false;
+        return Err(Ended);
     }
-    read_lines(rt, numbers, merging, shown)
+    read_lines(rt, page, merging, shown)
 }
 
 // Whether the first argument is the word merge.
 fn asks_merge(rt: HostRuntime) -> bool {
     let mut word = [0u8; 6];
-    let held = arguments::get(rt, 1, &mut word).count;
-    held == 5 && begins(&word[..held], b"merge")
+    match arguments::get(rt, 1, &mut word) {
+        Ok(held) => held == 5 && word.starts_with(b"merge"),
+        Err(_) => false,
+    }
 }
 
 // Offers the files that the arguments name.
 fn offer_arguments(
     rt: HostRuntime,
     count: usize,
-    numbers: &mut [u64; NUMBERS_ON_PAGE],
+    page: &mut Page,
     shown: bool,
-) -> bool {
-    let mut i = 1;
-    while i < count {
-        if !offer_argument(rt, i, numbers, shown) {
-            return false;
-        }
-        i += 1;
+) -> Result<(), Ended> {
+    for i in 1..count {
+        offer_argument(rt, i, page, shown)?;
     }
-    true
+    Ok(())
 }
 
 // Offers the file that an argument names.
-fn offer_argument(
-    rt: HostRuntime,
-    i: usize,
-    numbers: &mut [u64; NUMBERS_ON_PAGE],
-    shown: bool,
-) -> bool {
+fn offer_argument(rt: HostRuntime, i: usize, page: &mut Page, shown: bool) -> Result<(), Ended> {
     let mut name = [0u8; PATH];
-    let read = arguments::get(rt, i, &mut name);
-    let held = read.count;
-    if !read.ok {
-        fail(rt, b"argument", read.code);
-        return true;
+    match arguments::get(rt, i, &mut name) {
+        Ok(held) => offer_file(rt, &name[..held], page, shown),
+        Err(error) => {
+            fail(rt, b"argument", error);
+            Ok(())
+        }
     }
-    offer_file(rt, &name[..held], numbers, shown)
 }
 
-// Offers a file, if it can be opened, and shows how many there were. Answers whether the run goes on.
-fn offer_file(
-    rt: HostRuntime,
-    name: &[u8],
-    numbers: &mut [u64; NUMBERS_ON_PAGE],
-    shown: bool,
-) -> bool {
+// Offers a file, if it can be opened, and shows how many there were.
+fn offer_file(rt: HostRuntime, name: &[u8], page: &mut Page, shown: bool) -> Result<(), Ended> {
     let Some(mut file) = open(rt, name) else {
-        return true;
+        return Ok(());
     };
-    let ok = offer_open(rt, &mut file, name, numbers);
+    let offered = offer_open(rt, &mut file, name, page);
     drop(file);
     if shown {
-        show(rt, numbers[0]);
+        show(rt, page.meshes);
     }
-    ok
+    offered
 }
 
 // Offers an open file, if it can be read.
-fn offer_open(
-    rt: HostRuntime,
-    file: &mut File,
-    name: &[u8],
-    numbers: &mut [u64; NUMBERS_ON_PAGE],
-) -> bool {
+fn offer_open(rt: HostRuntime, file: &mut File, name: &[u8], page: &mut Page) -> Result<(), Ended> {
     let mut bytes = [0u8; BUFFER];
-    let read = read_file(rt, file, name, &mut bytes);
-    let held = read.held;
-    if !read.ok {
-        return true;
+    match read_file(rt, file, name, &mut bytes) {
+        Ok(read) => offer(rt, &bytes[..read.held], read.counted, page),
+        Err(_) => Ok(()),
     }
-    offer(rt, &bytes[..held], read.counted, numbers)
 }
 
 // Offers the bytes of a file to the page.
-fn offer(
-    rt: HostRuntime,
-    bytes: &[u8],
-    counted: usize,
-    numbers: &mut [u64; NUMBERS_ON_PAGE],
-) -> bool {
-    let page = page_numbers::read(numbers);
-    let reported = border_report::report(bytes, counted, page);
-    take_page(rt, reported, numbers)
+fn offer(rt: HostRuntime, bytes: &[u8], counted: usize, page: &mut Page) -> Result<(), Ended> {
+    let reported = border_report::report(bytes, counted, *page);
+    take_page(rt, reported, page)
 }
 
-// The next page's numbers, or the line of a refusal.
-fn take_page(rt: HostRuntime, reported: Reported, numbers: &mut [u64; NUMBERS_ON_PAGE]) -> bool {
-    let answer = reported.answer;
-    if let Answer::Refused(number, place) = answer {
-        complain_refusal(rt, number, place);
-        return false;
+// The next page, or the line of a refusal.
+fn take_page(
+    rt: HostRuntime,
+    reported: Result<Page, Refusal>,
+    page: &mut Page,
+) -> Result<(), Ended> {
+    match reported {
+        Ok(next) => {
+            *page = next;
+            Ok(())
+        }
+        Err(refusal) => {
+            complain_refusal(rt, refusal.number, refusal.place);
+            Err(Ended)
+        }
     }
-    let page = reported.page;
-    *numbers = page_numbers::numbers(page);
-    true
 }
 
 // How many meshes were offered; what is written next begins in the same place.
@@ -162,40 +153,36 @@ fn show(rt: HostRuntime, meshes: u64) {
 }
 
 // Reads the lines of standard input, with room for one.
-fn read_lines(
-    rt: HostRuntime,
-    numbers: &mut [u64; NUMBERS_ON_PAGE],
-    merging: bool,
-    shown: bool,
-) -> bool {
+fn read_lines(rt: HostRuntime, page: &mut Page, merging: bool, shown: bool) -> Result<(), Ended> {
     let mut buffer = [0u8; LINE];
-    take_lines(rt, &mut buffer, numbers, merging, shown)
+    take_lines(rt, &mut buffer, page, merging, shown)
 }
 
 // Takes one line after the other.
 fn take_lines(
     rt: HostRuntime,
     buffer: &mut [u8],
-    numbers: &mut [u64; NUMBERS_ON_PAGE],
+    page: &mut Page,
     merging: bool,
     shown: bool,
-) -> bool {
+) -> Result<(), Ended> {
     let mut held = line_input::nothing();
-    let mut i: u64 = 0;
-    while i < MOST_LINES {
-        let line = next_line(rt, &mut rt.stdin(), b"standard input", buffer, held);
-        let start = line.start;
-        let end = line.end;
-        if !line.found {
-            return line.ok;
-        }
-        if !take_line(rt, &buffer[start..end], i + 1, numbers, merging, shown) {
-            return false;
-        }
+    for i in 0..MOST_LINES {
+        let next = next_line(rt, &mut rt.stdin(), b"standard input", buffer, held)?;
+        let Some(line) = next else {
+            return Ok(());
+        };
+        take_line(
+            rt,
+            &buffer[line.start..line.end],
+            i + 1,
+            page,
+            merging,
+            shown,
+        )?;
         held = line.held;
-        i += 1;
     }
-    false
+    Err(Ended)
 }
 
 // Takes one line, the one with this number: a name, or where pages are merged perhaps a page. A line of no bytes is no name.
@@ -203,42 +190,30 @@ fn take_line(
     rt: HostRuntime,
     line: &[u8],
     i: u64,
-    numbers: &mut [u64; NUMBERS_ON_PAGE],
+    page: &mut Page,
     merging: bool,
     shown: bool,
-) -> bool {
+) -> Result<(), Ended> {
     if merging {
-        return merge_line(rt, line, i, numbers);
+        return merge_line(rt, line, i, page);
     }
-    if line.len() == 0 {
-        return true;
+    if line.is_empty() {
+        return Ok(());
     }
-    offer_file(rt, line, numbers, shown)
+    offer_file(rt, line, page, shown)
 }
 
 // Merges the page of a line, if it begins with the word.
-fn merge_line(rt: HostRuntime, line: &[u8], i: u64, numbers: &mut [u64; NUMBERS_ON_PAGE]) -> bool {
-    if !begins(line, b"page ") {
-        return true;
+fn merge_line(rt: HostRuntime, line: &[u8], i: u64, page: &mut Page) -> Result<(), Ended> {
+    if !line.starts_with(b"page ") {
+        return Ok(());
     }
-    let mut others = [0u64; NUMBERS_ON_PAGE];
-    if !page_text::read_numbers(line, &mut others) {
+    let Some(others) = page_text::read_numbers(line) else {
         complain_line(rt, i);
-        return false;
-    }
-    merge(rt, &others, numbers)
-}
-
-// Merges a page.
-fn merge(
-    rt: HostRuntime,
-    others: &[u64; NUMBERS_ON_PAGE],
-    numbers: &mut [u64; NUMBERS_ON_PAGE],
-) -> bool {
-    let page = page_numbers::read(numbers);
-    let other = page_numbers::read(others);
-    let reported = pages::merge(page, other);
-    take_page(rt, reported, numbers)
+        return Err(Ended);
+    };
+    let merged = pages::merge(*page, page_numbers::read(&others));
+    take_page(rt, merged, page)
 }
 
 // A line that begins as a page does and is none.

@@ -2,10 +2,7 @@
 // Restores a coordinate list from the archive: the bytes on standard input, as `archive` writes them, become four-byte numbers, low byte
 // first, on standard output. Every number has a byte in each quarter of the input, so the whole of it is held, and there is a longest
 // list. What is turned down gets a line on standard error and nothing on standard output.
-ghost use Rattle.std.specs.Prelude.{◌≤◌};
-
-use mesh::least;
-use paper::Answer;
+use paper::Refusal;
 use rearrange::four_bytes::{LONGEST_BYTES, LONGEST_LIST};
 
 fn main(rt: HostRuntime) {
@@ -25,26 +22,25 @@ fn run(rt: HostRuntime, bytes: &mut [u8; LONGEST_BYTES + 1], numbers: &mut [i32;
 
 // Reads the bytes, one more than the longest list has, so that a longer one is noticed, and lends a number for each four of them.
 fn restore_input(rt: HostRuntime, bytes: &mut [u8], numbers: &mut [i32]) {
-    let got = streams::input::read_up_to(rt, &mut rt.stdin(), b"standard input", bytes);
-    let held = got.count;
-    if LONGEST_BYTES < held {
-        streams::output::complain(rt, b"standard input: more than 1572864 bytes\n");
-        return;
-    }
-    if got.ok {
-        let n = least(held / 4, numbers.len());
-        restore_numbers(rt, &mut bytes[..held], &mut numbers[..n]);
+    match streams::input::read_up_to(rt, &mut rt.stdin(), b"standard input", bytes) {
+        Ok(held) if LONGEST_BYTES < held => {
+            streams::output::complain(rt, b"standard input: more than 1572864 bytes\n");
+        }
+        Ok(held) => {
+            let n = (held / 4).min(numbers.len());
+            restore_numbers(rt, &mut bytes[..held], &mut numbers[..n]);
+        }
+        Err(_) => {}
     }
 }
 
 // Restores the numbers, and writes their bytes in the place of the archive's.
 fn restore_numbers(rt: HostRuntime, bytes: &mut [u8], numbers: &mut [i32]) {
-    let answer = rearrange::restore(bytes, numbers);
-    match answer {
-        Answer::Refused(number, place) => lines::complain_refusal(rt, number, place),
-        Answer::Done => {
+    match rearrange::restore(bytes, numbers) {
+        Ok(()) => {
             rearrange::four_bytes::write_numbers(numbers, bytes);
             streams::output::say(rt, bytes);
         }
+        Err(Refusal { number, place }) => lines::complain_refusal(rt, number, place),
     }
 }

@@ -5,96 +5,41 @@ use mathlib.Core.List.{List, [], ◌∷◌, ◌++◌, append_assoc, append-nil}
 use Prim.Native.Nat.{ℕ, zero, suc, ◌+◌, ◌-◌, ◌*◌, ◌/◌, ◌%◌, ◌<◌, ◌≤◌}
 use native.Mathlib.Omega.{arith}
 use native.Mathlib.Numerals.{add-one}
-use lib.ListN.{length, get_or, set, drop, length-set, length-append}
-use lib.Seq.{get_or-set_same, get_or-set_other, drop-cons, set-append_seam}
+use Rattle.std.proofs.lemmas.Grind.{common_steps}
+use Rattle.std.specs.List.{ReversedBelow}
+use borrow.Rule.Slice.PartMut.{put_mid}
+use Rattle.std.proofs.lemmas.List.{get_or-append_right, get_or_append_left, get_or-take, get_or-drop}
+use lib.ListN.{length, get_or, set, take, drop, length-set, length-append, length-take, length-drop}
+use lib.Seq.{drop-cons, set-append_seam}
 use Rattle.paper.specs.Corners.{sum_of, face_of, start_of, first_of, sides_of}
 use Rattle.paper.specs.File.{begins}
 use Rattle.paper.specs.Turning.{counterpart, corner_from, turned_corners, pair_from, turned_pairs, faces_of}
 use Rattle.mesh.proofs.Faces.{face_at, start_zero, start_next, start_all}
-use Rattle.mesh.proofs.ByCases.{by_test, by_equal, by_less, less_one, beyond}
+use Rattle.mesh.proofs.ByCases.{by_test, by_equal, beyond}
 use Rattle.reversing.proofs.Rearranged.{RearrangedTo, Part, part_none, part_written, all_written}
 use Rattle.reversing.proofs.TurnedFace.{counterpart_first, counterpart_later, from_kept, from_turned}
 use Rattle.reversing.proofs.Models.{pair_kept, pair_turned, faces_hit, faces_miss, faces_none}
 use Rattle.reversing.specs.Written.{Reversed, PairsTurned, FaceTurned, Written}
 
--- reversed from both ends
-pub record Reversing (from to : ℕ) (old new : List ℕ) (low high : ℕ) : Type 0 where
-  pub even : low + high ≡ from + to
-  pub apart : low ≤ high
-  pub first : from ≤ low
-  pub same_length : length new ≡ length old
-  pub lower : (d : ℕ) → from ≤ d → d < low → get_or new d 0 ≡ get_or old (from + to - 1 - d) 0
-  pub upper : (d : ℕ) → high ≤ d → d < to → get_or new d 0 ≡ get_or old (from + to - 1 - d) 0
-  pub inner : (d : ℕ) → low ≤ d → d < high → get_or new d 0 ≡ get_or old d 0
-  pub before : (d : ℕ) → d < from → get_or new d 0 ≡ get_or old d 0
-  pub after : (d : ℕ) → to ≤ d → get_or new d 0 ≡ get_or old d 0
-
-pub reversing_none : (from to : ℕ) (old : List ℕ) → from ≤ to → Reversing from to old old from to
-reversing_none from to old h =
-    record {
-      even = refl;
-      apart = h;
-      first = omega arith;
-      same_length = refl;
-      lower = λ d a b. absurd (omega arith);
-      upper = λ d a b. absurd (omega arith);
-      inner = λ d a b. refl;
-      before = λ d a. refl;
-      after = λ d a. refl;
-    }
-
--- the entries at low and at high - 1 change places
-module _ {from to : ℕ} {old new : List ℕ} {low high : ℕ} (he : to ≤ length old) (t : Reversing from to old new low high) where
-  module _ (l : low + 1 < high) where
-    abbrev swapped : List ℕ
-    swapped = set (set new low (get_or new (high - 1) 0)) (high - 1) (get_or new low 0)
-
-    high_in : high ≤ to
-    high_in = omega (arith, t.even, t.first)
-
-    at_low : get_or swapped low 0 ≡ get_or new (high - 1) 0
-    at_low =
-        get_or-set_other (set new low (get_or new (high - 1) 0)) (high - 1) low (get_or new low 0) 0 (λ q. omega arith)
-        ∙ get_or-set_same new low (get_or new (high - 1) 0) 0 (omega (arith, t.same_length, high_in))
-
-    at_high : get_or swapped (high - 1) 0 ≡ get_or new low 0
-    at_high =
-        get_or-set_same (set new low (get_or new (high - 1) 0)) (high - 1) (get_or new low 0) 0
-        (omega (arith, t.same_length, length-set new low (get_or new (high - 1) 0), high_in))
-
-    else_at : (d : ℕ) → (d ≡ low → ⊥) → (d ≡ high - 1 → ⊥) → get_or swapped d 0 ≡ get_or new d 0
-    else_at d a b =
-        get_or-set_other (set new low (get_or new (high - 1) 0)) (high - 1) d (get_or new low 0) 0 b ∙ get_or-set_other new low d (get_or new (high - 1) 0) 0 a
-
-    pub reversing_step : Reversing from to old (set (set new low (get_or new (high - 1) 0)) (high - 1) (get_or new low 0)) (low + 1) (high - 1)
-    reversing_step =
-        let hi = high_in in
-        record {
-          even = omega (arith, t.even);
-          apart = omega arith;
-          first = omega (arith, t.first);
-          same_length = simp length-set t.same_length;
-          lower = λ d a b. by_equal d low
-              (λ q. rw q (at_low ∙ t.inner (high - 1) (omega arith) (omega arith) ∙ ap (λ (x : ℕ). get_or old x 0) (omega (arith, t.even))))
-              (λ q. let b' = less_one d low b q in else_at d q (λ w. omega arith) ∙ t.lower d a b');
-          upper = λ d a b. by_equal d (high - 1)
-              (λ q. rw q (at_high ∙ t.inner low (omega arith) (omega arith) ∙ ap (λ (x : ℕ). get_or old x 0) (omega (arith, t.even))))
-              (λ q. let a' = beyond d (high - 1) a q in else_at d (λ w. omega arith) q ∙ t.upper d (omega arith) b);
-          inner = λ d a b. else_at d (λ w. omega arith) (λ w. omega arith) ∙ t.inner d (omega arith) (omega arith);
-          before = λ d a. else_at d (λ w. omega (arith, t.first)) (λ w. omega (arith, t.first)) ∙ t.before d a;
-          after = λ d a. else_at d (λ w. omega arith) (λ w. omega arith) ∙ t.after d a;
-        }
-
-  pub reversing_all : high ≤ low + 1 → Reversed from to old new
-  reversing_all l =
+-- a part that is reversed and put back in its place
+pub part_reversed : (from n to : ℕ) (old part : List ℕ) → from + n ≡ to → to ≤ length old → length part ≡ length (take n (drop from old))
+    → ReversedBelow (take n (drop from old)) part (length (take n (drop from old)))
+    → Reversed from to old (put_mid from n old part) × (length (put_mid from n old part) ≡ length old)
+part_reversed from n to old part q l e r =
+    let m : length (take n (drop from old)) ≡ n = simp (length-take, length-drop) (omega arith) in (
       record {
-        inner = λ d a b. by_less d low (t.lower d a)
-            (λ x. by_less d high
-            (λ y. t.inner d x y ∙ ap (λ (z : ℕ). get_or old z 0) (omega (arith, t.even)))
-            (λ y. t.upper d y b));
-        before = t.before;
-        after = t.after;
-      }
+        inner = λ d a b.
+            get_or-append_right (take from old) (part ++ drop n (drop from old)) from d 0 (simp length-take (omega arith)) a
+            ∙ get_or_append_left part (drop n (drop from old)) 0 (d - from) (omega arith)
+            ∙ r (d - from) 0 (omega arith)
+            ∙ get_or-take n (drop from old) (length (take n (drop from old)) - 1 - (d - from)) 0 (omega arith)
+            ∙ get_or-drop from old (length (take n (drop from old)) - 1 - (d - from)) 0
+            ∙ ap (λ (x : ℕ). get_or old x 0) (omega arith);
+        before = λ d a. grind (arith, common_steps);
+        after = λ d a. grind (arith, common_steps);
+      },
+      simp (length-append, length-take, length-drop) (omega arith),
+    )
 
 -- one face: all its corners but the first
 pub face_turned : (start end : ℕ) (old new : List ℕ) → start < end → Reversed (start + 1) end old new → FaceTurned start end old new

@@ -7,7 +7,7 @@ ghost use Rattle.std.specs.Prelude.{◌≡◌, ◌*◌, ◌≤◌, ◌<◌, leng
 ghost use Rattle.paper.specs.Mesh.{most_corners};
 ghost use Rattle.paper.specs.Turning.{turned_pairs};
 ghost use Rattle.reversing.specs.States.{turns_by};
-ghost use Rattle.reversing.specs.Written.{Reversed, PairsTurned, Sharpenable, FaceTurned, Writable, Written};
+ghost use Rattle.reversing.specs.Written.{PairsTurned, Sharpenable, FaceTurned, Writable, Written};
 
 use crate::states::TURNED;
 
@@ -16,7 +16,7 @@ fn turn_face(corners: &mut [u16], start: usize, end: usize)
     requires { (start < end) × (end ≤ length corners.old) × (length corners.old ≤ most_corners) }
     ensures { FaceTurned start end corners.old corners.new }
 {
-    reverse(corners, start + 1, end)
+    corners[start + 1..end].reverse();
 }
 
 // Turns the sharpness pairs of the faces whose state says so.
@@ -25,14 +25,12 @@ pub fn turn_sharpness(sides: &[u8], states: &[u8], pairs: &mut [u8])
     ensures { pairs.new ≡ turned_pairs sides.now pairs.old (turns_by states.now) }
 {
     let mut start = 0;
-    let mut f = 0;
-    while f < sides.len() {
-        let end = start + sides[f] as usize;
+    for (f, side_count) in sides.iter().enumerate() {
+        let end = start + usize::from(*side_count);
         if states[f] == TURNED {
             turn_pairs(pairs, start, end);
         }
         start = end;
-        f += 1;
     }
 }
 
@@ -43,42 +41,8 @@ fn turn_pairs(pairs: &mut [u8], start: usize, end: usize)
 {
     let first = 2 * start;
     let later = first + 2;
-    reverse_bytes(pairs, first, later);
-    reverse_bytes(pairs, later, 2 * end)
-}
-
-// Reverses the entries from `from` to `to` in place.
-fn reverse(list: &mut [u16], from: usize, to: usize)
-    requires { (from ≤ to) × (to ≤ length list.old) × (length list.old ≤ most_corners) }
-    ensures { Reversed from to list.old list.new }
-{
-    let mut low = from;
-    let mut high = to;
-    while low + 1 < high {
-        high -= 1;
-        let first = list[low];
-        let last = list[high];
-        list[low] = last;
-        list[high] = first;
-        low += 1;
-    }
-}
-
-// The same of bytes.
-fn reverse_bytes(list: &mut [u8], from: usize, to: usize)
-    requires { (from ≤ to) × (to ≤ length list.old) × (length list.old ≤ 2 * most_corners) }
-    ensures { Reversed from to list.old list.new }
-{
-    let mut low = from;
-    let mut high = to;
-    while low + 1 < high {
-        high -= 1;
-        let first = list[low];
-        let last = list[high];
-        list[low] = last;
-        list[high] = first;
-        low += 1;
-    }
+    pairs[first..later].reverse();
+    pairs[later..2 * end].reverse();
 }
 
 // Turns the faces whose state says so, in place, and lists them at the beginning of the listing; answers how many they are.
@@ -88,16 +52,14 @@ pub fn turn_faces(sides: &[u8], states: &[u8], corners: &mut [u16], listing: &mu
 {
     let mut count = 0;
     let mut start = 0;
-    let mut f = 0;
-    while f < sides.len() {
-        let end = start + sides[f] as usize;
+    for (f, side_count) in sides.iter().enumerate() {
+        let end = start + usize::from(*side_count);
         if states[f] == TURNED {
             turn_face(corners, start, end);
             listing[count] = f as u16;
             count += 1;
         }
         start = end;
-        f += 1;
     }
     count
 }

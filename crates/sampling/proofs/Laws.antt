@@ -1,28 +1,28 @@
 -- The checks, the sizes of a side's control points, and one sample.
 use mathlib.Core.Path.{◌≡◌, refl, sym, ap, ◌∙◌, subst}
 use mathlib.Core.Bool.{Bool, true, false, not, ◌||◌}
-use mathlib.Core.List.{List, [], ◌∷◌}
+use mathlib.Core.List.{List}
 use Prim.Native.Nat.{ℕ, zero, suc, ◌+◌, ◌-◌, ◌*◌, ◌/◌, ◌^◌, ◌≤◌, ◌<◌}
 use native.Mathlib.Nat.{mul-le-mul}
 use native.Mathlib.Omega.{arith}
 use borrow.Author.Tests.{ltb-false, lt-ltb, le-ltb, eqb-true, eqb-false, eq-eqb, ne_eqb, not-false}
 use lib.Dec.{ltb, eqb, lit≤}
-use lib.ListN.{length, set}
+use lib.ListN.{length}
 use lib.IntN.{ℤ, pos, nat_abs}
 use mir.Syntax.{w32}
 use mir.Val.{SFits, to_z, of_z}
 use mir.ValLaws.{to_z-of_z}
-use Rattle.paper.specs.Faults.{Verdict, sound, fault, ◌or_else◌, single, outside, stated}
+use Rattle.paper.specs.Faults.{Verdict, sound, fault, ◌or_else◌, single, outside, stated, Answer, done}
+use Rattle.std.specs.Prelude.{Err}
+use Rattle.paper.specs.declared.Refusal.{Refusal}
 use Rattle.paper.specs.Numbers.{round}
 use Rattle.paper.specs.Net.{Side}
 use Rattle.paper.specs.File.{no_room, begins}
 use Rattle.paper.specs.Floats.{net_verdict, fault20, point_verdict, axes}
-use Rattle.paper.specs.declared.Answer.{Answer}
-use Rattle.paper.specs.declared.Answer.TheVariants.{Done, Refused}
 use Rattle.paper.specs.Sampling.{control, Weights, weights, on_axis, bernstein_sum, sample_at, sample_point, fault32, most_parts, fault33, sample_verdict, side_at}
 use Rattle.paper.specs.Sampling.{Sampled, sample_count, triangle_samples, triangle_verdict, TriangleSampled}
 use Rattle.mesh.proofs.Ranges.{or_left, or_right, none_left, none_right, inside, at_least, at_most}
-use Rattle.mesh.proofs.Verdicts.{sound_left, sound_right, single_sound, single_miss, single_hit, or_else_fault, or_else_sound, stop, past}
+use Rattle.mesh.proofs.Verdicts.{sound_left, sound_right, single_sound, single_miss, single_hit, or_else_fault, or_else_sound, stop, past, refusing}
 use Rattle.bernstein.specs.declared.Vector5.{Vector5}
 use Rattle.bernstein.specs.declared.Matrix5.{Matrix5}
 use Rattle.bernstein.specs.Sums.{AllSized, Tapered, AllTapered, rows_of, polynomial_of, row_of, polynomial_at, quartic_sum}
@@ -213,25 +213,17 @@ module _ (numbers : List ℤ) (e : net_verdict numbers ≡ sound) (side axis : �
             to_z-of_z w32 q b ∙ is ∙ ap (λ (z : ℤ). round z (pos (n ^ 4))) v_is ∙ sample_is numbers e side axis h i j k n sums
 
 -- ---- what the call for one sample leaves
-pub point_set : (old : List ℤ) (x y z : ℤ) → length old ≡ 3 → set (set (set old 0 x) 1 y) 2 z ≡ axes x y z
-point_set [] x y z h = absurd (omega arith)
-point_set (a ∷ []) x y z h = absurd (omega arith)
-point_set (a ∷ b ∷ []) x y z h = absurd (omega arith)
-point_set (a ∷ b ∷ c ∷ []) x y z h = refl
-point_set (a ∷ b ∷ c ∷ d ∷ l) x y z h = absurd (omega arith)
-
 pub point_is : (numbers : List ℤ) (s : Side) (w : Weights) (x y z : ℤ) → x ≡ sample_at numbers s w 0 → y ≡ sample_at numbers s w 1
     → z ≡ sample_at numbers s w 2 → axes x y z ≡ sample_point numbers s w
 unfolding sample_point
 point_is numbers s w x y z e f g = rw (e, f, g)
 
 module _ (numbers : List ℤ) (side : ℕ) (w : Weights) (old : List ℤ) where
-  pub sample_refused : (a : Answer) → stated a ≡ sample_verdict numbers side w → (k p : ℕ) → a ≡ Refused k p
-      → Sampled numbers side w old (Refused k p) old
-  sample_refused a e k p q = record { answers = sym (ap stated q) ∙ e; holds = refl }
+  pub sample_refused : (a : Answer) → stated a ≡ sample_verdict numbers side w → (r : Refusal) → a ≡ Err r → Sampled numbers side w old (Err r) old
+  sample_refused a e r q = record { answers = sym (ap stated q) ∙ e; holds = refl }
 
   pub sample_done : (out : List ℤ) → sample_verdict numbers side w ≡ sound → out ≡ sample_point numbers (side_at side) w
-      → Sampled numbers side w old Done out
+      → Sampled numbers side w old done out
   sample_done out e h = record { answers = sym e; holds = h }
 
 -- ---- what the call for a triangle answers: the checks of its first sample, then the room
@@ -260,13 +252,13 @@ triangle_chain numbers side n room =
     or_else single no_room (ltb room (3 * sample_count n)) (3 * sample_count n)) (sym (first_sample n))
 
 module _ (numbers : List ℤ) (side n : ℕ) (old : List ℤ) where
-  pub triangle_refused : (a : Answer) → stated a ≡ sample_verdict numbers side (weights n 0 0 n) → (k p : ℕ) → a ≡ Refused k p
-      → TriangleSampled numbers side n old (Refused k p) old
-  triangle_refused a e k p q =
-      record { answers = stop a e k p q _ ∙ triangle_chain numbers side n (length old); holds = refl }
+  pub triangle_refused : (a : Answer) → stated a ≡ sample_verdict numbers side (weights n 0 0 n) → (r : Refusal) → a ≡ Err r
+      → TriangleSampled numbers side n old (Err r) old
+  triangle_refused a e r q =
+      record { answers = stop a e r q _ ∙ triangle_chain numbers side n (length old); holds = refl }
 
   module _ (e : sample_verdict numbers side (weights n 0 0 n) ≡ sound) where
-    pub triangle_short : (needed : ℕ) → needed ≡ 3 * sample_count n → length old < needed → TriangleSampled numbers side n old (Refused no_room needed) old
+    pub triangle_short : (needed : ℕ) → needed ≡ 3 * sample_count n → length old < needed → TriangleSampled numbers side n old (refusing no_room needed) old
     triangle_short needed q h =
         record {
           answers =
@@ -276,7 +268,7 @@ module _ (numbers : List ℤ) (side n : ℕ) (old : List ℤ) where
         }
 
     pub triangle_done : (out : List ℤ) → 3 * sample_count n ≤ length old → out ≡ begins (triangle_samples numbers (side_at side) n) old
-        → TriangleSampled numbers side n old Done out
+        → TriangleSampled numbers side n old done out
     triangle_done out h q =
         record {
           answers =

@@ -1,19 +1,19 @@
 -- The tangents: the values of the derivatives are those of the definition, what the call for one sample leaves, and closing along common sides.
 use mathlib.Core.Path.{◌≡◌, refl, sym, ap, ◌∙◌, subst}
-use mathlib.Core.List.{List, [], ◌∷◌, ◌++◌}
+use mathlib.Core.List.{List, ◌++◌}
 use Prim.Native.Nat.{ℕ, ◌+◌, ◌*◌, ◌^◌, ◌≤◌, ◌<◌}
 use native.Mathlib.Nat.{mul-zero, le_trans}
 use native.Mathlib.Omega.{arith}
 use lib.Dec.{lit≤}
-use lib.ListN.{length, set, take}
+use lib.ListN.{take}
 use lib.IntN.{ℤ, pos, nat_abs, ◌+ℤ◌, ◌*ℤ◌}
-use Rattle.paper.specs.Faults.{Verdict, sound, ◌or_else◌, single, stated, kept}
+use Rattle.std.specs.Prelude.{Err}
+use Rattle.paper.specs.declared.Refusal.{Refusal}
+use Rattle.paper.specs.Faults.{Verdict, sound, ◌or_else◌, single, stated, kept, Answer, done}
 use Rattle.paper.specs.Numbers.{sum_by}
 use Rattle.paper.specs.Net.{Side, across, outer_row}
 use Rattle.paper.specs.Floats.{net_verdict, axes}
 use Rattle.paper.specs.Borders.{beside}
-use Rattle.paper.specs.declared.Answer.{Answer}
-use Rattle.paper.specs.declared.Answer.TheVariants.{Done, Refused}
 use Rattle.paper.specs.Sampling.{control, Weights, weights, on_axis, fault33, sample_verdict, side_at, side_number, net_in}
 use Rattle.paper.specs.Tangents as paper
 use Rattle.paper.specs.Tangents.{tangent_along, tangent_inward, tangent_pair, TangentsSampled}
@@ -91,17 +91,6 @@ module _ (numbers : List ℤ) (e : net_verdict numbers ≡ sound) (side axis : �
           }
 
 -- ---- what the call for one sample leaves
-pub pair_set : (old : List ℤ) (a b c d e f : ℤ) → length old ≡ 6
-    → set (set (set (set (set (set old 0 a) 1 b) 2 c) 3 d) 4 e) 5 f ≡ axes a b c ++ axes d e f
-pair_set [] a b c d e f h = absurd (omega arith)
-pair_set (t ∷ []) a b c d e f h = absurd (omega arith)
-pair_set (t ∷ u ∷ []) a b c d e f h = absurd (omega arith)
-pair_set (t ∷ u ∷ v ∷ []) a b c d e f h = absurd (omega arith)
-pair_set (t ∷ u ∷ v ∷ w ∷ []) a b c d e f h = absurd (omega arith)
-pair_set (t ∷ u ∷ v ∷ w ∷ x ∷ []) a b c d e f h = absurd (omega arith)
-pair_set (t ∷ u ∷ v ∷ w ∷ x ∷ y ∷ []) a b c d e f h = refl
-pair_set (t ∷ u ∷ v ∷ w ∷ x ∷ y ∷ z ∷ l) a b c d e f h = absurd (omega arith)
-
 pub pair_is : (numbers : List ℤ) (s : Side) (w : Weights) (a b c d e f : ℤ) → a ≡ tangent_along numbers s w 0 → b ≡ tangent_along numbers s w 1
     → c ≡ tangent_along numbers s w 2 → d ≡ tangent_inward numbers s w 0 → e ≡ tangent_inward numbers s w 1 → f ≡ tangent_inward numbers s w 2
     → axes a b c ++ axes d e f ≡ tangent_pair numbers s w
@@ -109,12 +98,12 @@ unfolding tangent_pair
 pair_is numbers s w a b c d e f p q r t u v = rw (p, q, r, t, u, v)
 
 module _ (numbers : List ℤ) (side : ℕ) (w : Weights) (old : List ℤ) where
-  pub tangents_refused : (a : Answer) → stated a ≡ sample_verdict numbers side w → (k p : ℕ) → a ≡ Refused k p
-      → TangentsSampled numbers side w old (Refused k p) old
-  tangents_refused a e k p q = record { answers = sym (ap stated q) ∙ e; holds = refl }
+  pub tangents_refused : (a : Answer) → stated a ≡ sample_verdict numbers side w → (r : Refusal) → a ≡ Err r
+      → TangentsSampled numbers side w old (Err r) old
+  tangents_refused a e r q = record { answers = sym (ap stated q) ∙ e; holds = refl }
 
   pub tangents_done : (out : List ℤ) → sample_verdict numbers side w ≡ sound → out ≡ tangent_pair numbers (side_at side) w
-      → TangentsSampled numbers side w old Done out
+      → TangentsSampled numbers side w old done out
   tangents_done out e h = record { answers = sym e; holds = h }
 
 -- ---- closing: at k = 0 the sum takes the outer row only
@@ -164,7 +153,7 @@ same_axes : (a b c d e f : ℤ) → a ≡ d → b ≡ e → c ≡ f → axes a b
 same_axes a b c d e f p q r = rw (p, q, r)
 
 -- the first three of what a call that is done leaves
-left : (numbers : List ℤ) (s : Side) (w : Weights) (old out : List ℤ) (r : Answer) → TangentsSampled numbers (side_number s) w old r out → r ≡ Done
+left : (numbers : List ℤ) (s : Side) (w : Weights) (old out : List ℤ) (r : Answer) → TangentsSampled numbers (side_number s) w old r out → r ≡ done
     → take 3 out ≡ axes (tangent_along numbers s w 0) (tangent_along numbers s w 1) (tangent_along numbers s w 2)
 unfolding tangent_pair
 left numbers s w old out r c e =

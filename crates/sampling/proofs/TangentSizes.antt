@@ -8,10 +8,9 @@ use lib.Dec.{lit≤}
 use lib.ListN.{get_or}
 use lib.IntN.{ℤ, pos, neg_ℤ, nat_abs, ◌+ℤ◌, ◌-ℤ◌, ◌*ℤ◌}
 use lib.Signed.{◌≤ℤ◌}
-use Rattle.paper.specs.Faults.{sound}
+use Rattle.paper.specs.Faults.{sound, done}
 use Rattle.paper.specs.Net.{Side}
 use Rattle.paper.specs.Floats.{net_verdict}
-use Rattle.paper.specs.declared.Answer.TheVariants.{Done}
 use Rattle.paper.specs.Sampling.{control, Weights, on_axis, side_at, side_number}
 use Rattle.paper.specs.Tangents as paper
 use Rattle.paper.specs.Tangents.{along, inward, tangent_along, tangent_inward, tangent_pair, TangentsSampled}
@@ -87,7 +86,7 @@ module _ (numbers : List ℤ) (e : net_verdict numbers ≡ sound) (s : Side) (w 
   pair_within (suc (suc (suc (suc (suc (suc k)))))) h = absurd (omega arith)
 
 -- what the call for one sample leaves
-pub sampled_within : (numbers : List ℤ) (side : ℕ) (w : Weights) (old out : List ℤ) → TangentsSampled numbers side w old Done out
+pub sampled_within : (numbers : List ℤ) (side : ℕ) (w : Weights) (old out : List ℤ) → TangentsSampled numbers side w old done out
     → (k : ℕ) → k < 6 → nat_abs (get_or out k (pos 0)) ≤ 2 ^ 42
 sampled_within numbers side w old out c k h =
     let e = sym c.answers in

@@ -10,7 +10,9 @@ use lib.ListN.{length, get_or, take, drop, length-append}
 use lib.Seq.{get_or-take, get_or-drop, drop-append_seam}
 use lib.IntN.{ℤ, pos, ◌*ℤ◌}
 use lib.Signed.{◌≤ℤ◌}
-use Rattle.paper.specs.Faults.{Verdict, sound, ◌or_else◌, single, outside, stated, kept}
+use Rattle.std.specs.Prelude.{Ok, Err}
+use Rattle.floats.proofs.Theorems.{refusals_same}
+use Rattle.paper.specs.Faults.{Verdict, sound, ◌or_else◌, single, outside, stated, kept, Answer, done}
 use Rattle.paper.specs.Numbers.{round}
 use Rattle.paper.specs.Mesh.{Mesh}
 use Rattle.paper.specs.Net.{Side, side0, side1, side2, side3, across, at_head, at_tail, outer_row}
@@ -18,8 +20,6 @@ use Rattle.paper.specs.Calls.{per_corner}
 use Rattle.paper.specs.File.{begins}
 use Rattle.paper.specs.Floats.{net_verdict, axes}
 use Rattle.paper.specs.Borders.{Output, Wrote, Holds, beside, written}
-use Rattle.paper.specs.declared.Answer.{Answer}
-use Rattle.paper.specs.declared.Answer.TheVariants.{Done, Refused}
 use Rattle.paper.specs.Sampling.{control, Weights, weights, on_axis, bernstein_sum, sample_at, sample_point, fault32, most_parts, fault33, sample_verdict, side_at}
 use Rattle.paper.specs.Sampling.{Sampled, row_samples, first_rows, triangle_samples, side_number, net_in, Alike, control_point, Leaves, Between, row_start}
 use Rattle.paper.specs.Claims.{SamplesClose, RaysAgree, SampleEnds, SamplesBetween, TrianglesSample}
@@ -37,10 +37,10 @@ use Rattle.sampling.proofs.Lists.{row_start_lem, below_or_last}
 
 -- ---- answers
 pub same_answer : (r r' : Answer) → stated r ≡ stated r' → r ≡ r'
-same_answer Done Done e = refl
-same_answer Done (Refused k p) e = let z : ◌≡◌ {A = ℕ} 0 1 = cc in absurd (omega arith)
-same_answer (Refused k p) Done e = let z : ◌≡◌ {A = ℕ} 0 1 = cc in absurd (omega arith)
-same_answer (Refused k p) (Refused k' p') e = let f : k ≡ k' = cc in let g : p ≡ p' = cc in cc
+same_answer (Ok u) (Ok u') e = refl
+same_answer (Ok u) (Err r) e = let z : ◌≡◌ {A = ℕ} 0 1 = cc in absurd (omega arith)
+same_answer (Err r) (Ok u) e = let z : ◌≡◌ {A = ℕ} 0 1 = cc in absurd (omega arith)
+same_answer (Err r) (Err r') e = ap Err (refusals_same r r' (cc) (cc))
 
 no_fault32 : (s : Side) → fault32 (side_number s) ≡ false
 unfolding fault32
@@ -57,7 +57,7 @@ verdict_is numbers s w =
     ap (λ (v : Verdict). net_verdict numbers or_else v) (or_else_sound (single 33 (fault33 w) w.parts) (single_miss 32 (side_number s) (no_fault32 s)))
 
 -- what a call that is done leaves
-left : (numbers : List ℤ) (side : ℕ) (w : Weights) (old out : List ℤ) (r : Answer) → Sampled numbers side w old r out → r ≡ Done
+left : (numbers : List ℤ) (side : ℕ) (w : Weights) (old out : List ℤ) (r : Answer) → Sampled numbers side w old r out → r ≡ done
     → out ≡ sample_point numbers (side_at side) w
 left numbers side w old out r c e = c.holds ∙ ap (λ (a : Answer). kept (stated a) (sample_point numbers (side_at side) w) old) e
 
@@ -127,7 +127,7 @@ module _ (numbers : List ℤ) (s : Side) (i j k N n q : ℕ) (h : (p : ℕ → �
 
   multiple : Leaves numbers s (weights i j k N) (control_point numbers s n q)
   multiple old out c =
-      left numbers (side_number s) (weights i j k N) old out Done c refl ∙ ap (λ (x : Side). sample_point numbers x (weights i j k N)) (side_back s)
+      left numbers (side_number s) (weights i j k N) old out done c refl ∙ ap (λ (x : Side). sample_point numbers x (weights i j k N)) (side_back s)
       ∙ multiple_point (some_parts numbers (side_number s) i j k N (sym c.answers))
 
 pub sample_ends : SampleEnds
@@ -162,7 +162,7 @@ samples_between numbers s w old out c axis a =
     let some = some_parts numbers (side_number s) w.head w.tail w.centre w.parts e in
     let q = parts_sum numbers (side_number s) w.head w.tail w.centre w.parts e in
     let is : get_or out axis (pos 0) ≡ sample_at numbers s w axis =
-    ap (λ (l : List ℤ). get_or l axis (pos 0)) (left numbers (side_number s) w old out Done c refl ∙ ap (λ (x : Side). sample_point numbers x w) (side_back s))
+    ap (λ (l : List ℤ). get_or l axis (pos 0)) (left numbers (side_number s) w old out done c refl ∙ ap (λ (x : Side). sample_point numbers x w) (side_back s))
     ∙ point_at_lem numbers s w axis a in
     subst (λ (z : ℤ). Between (on_axis numbers axis) s z) (sym is) (number_between numbers s w axis some q)
 
@@ -258,7 +258,7 @@ triangles_sample numbers side N old out t i j k e old' point r c =
     let no33 : fault33 (weights i j k N) ≡ false =
     or_none (outside 1 most_parts N) (not (eqb (i + j + k) N)) (inside 1 most_parts N some few) (ap not (eq-eqb (i + j + k) N e)) in
     let v = all_passed numbers side (weights i j k N) (net_passed numbers side N 0 0 N first) (side_passed numbers side N 0 0 N first) no33 in
-    let d = same_answer r Done (c.answers ∙ sym v) in
+    let d = same_answer r done (c.answers ∙ sym v) in
     let split = split_more (first_rows numbers (side_at side) N (N + 1)) _ (3 * (samples_before N k + j)) _
     (in_rows numbers (side_at side) N k j (N + 1) (omega arith) (omega arith)) in
     let w : weights (N - k - j) j k N ≡ weights i j k N = ap (λ (x : ℕ). weights x j k N) (let f : N - k - j ≡ i = omega arith in f) in (

@@ -1,10 +1,10 @@
 #![tactic(auto)]
 // L12: the point of one of a quad-net's four triangles at weights i/n, j/n, k/n. Checks 18, 19, 32 and 33, then one sample, or all samples of the
 // triangle into a lent list. Nothing is written before the last check has passed.
-ghost use Rattle.std.specs.Prelude.{◌≡◌, ℕ, ◌+◌, ◌*◌, ◌≤◌, ◌<◌, length, not, ◌++◌};
+ghost use Rattle.std.specs.Prelude.{◌≡◌, ◌+◌, ◌*◌, ◌≤◌, ◌<◌, length, not};
 ghost use Rattle.paper.specs.Faults.{sound, stated};
 ghost use Rattle.paper.specs.File.{begins};
-ghost use Rattle.paper.specs.Floats.{net_verdict, axes};
+ghost use Rattle.paper.specs.Floats.{net_verdict};
 ghost use Rattle.paper.specs.Sampling.{weights, sample_at, fault33, sample_verdict, side_at, Sampled, sample_count, triangle_samples};
 ghost use Rattle.paper.specs.Sampling.{TriangleSampled};
 ghost use Rattle.paper.specs.Tangents.{TangentsSampled};
@@ -13,13 +13,52 @@ ghost use Rattle.sampling.specs.Grid.{samples_before, Sampleable, RowSampleable,
 
 use bernstein::{Matrix5, Vector5};
 use control_points::control_points;
-use paper::{Answer, MOST_PARTS, NO_ROOM};
+use paper::{MOST_PARTS, NO_ROOM, Refusal};
 
 // The two tangents at a sample, on one axis.
 #[derive(Drop)]
 struct Tangent {
     along: i64,
     inward: i64,
+}
+
+// A place in a side's triangle that has passed the checks, by the weights of head, tail and centre, which make n.
+#[derive(Clone, Copy)]
+struct Place<'a> {
+    numbers: &'a [i32],
+    side: usize,
+    i: usize,
+    j: usize,
+    k: usize,
+    n: usize,
+    ghost net: { (net_verdict numbers.now ≡ sound) × (side ≤ 3) },
+    ghost parts: { (1 ≤ n) × (n ≤ 16) × (i + j + k ≡ n) },
+}
+
+impl<'a> Place<'a> {
+    // The sample on one axis.
+    fn sample_on(&self, axis: usize) -> i32
+        requires { axis < 3 }
+        ensures { result ≡ sample_at self.now.numbers.now (side_at self.now.side) (weights self.now.i self.now.j self.now.k self.now.n) axis }
+    {
+        let p = control_points(self.numbers, self.side, axis);
+        let e = bernstein::row_at(p, self.k, self.n);
+        let v = bernstein::value_at(e, self.j);
+        bernstein::rounded(v, self.n)
+    }
+
+    // Both tangents on one axis.
+    fn tangents_on(&self, axis: usize) -> Tangent
+        requires { axis < 3 }
+        ensures { TangentOn self.now.numbers.now self.now.side axis self.now.j self.now.k self.now.n result }
+    {
+        let points = control_points(self.numbers, self.side, axis);
+        let c = bernstein::polynomial(points, self.n);
+        Tangent {
+            along: value_in(bernstein::derivatives::along(c), self.j, self.k),
+            inward: value_in(bernstein::derivatives::inward(c), self.j, self.k),
+        }
+    }
 }
 
 // One sample.
@@ -31,44 +70,41 @@ pub fn sample(
     k: usize,
     n: usize,
     point: &mut [i32; 3],
-) -> Answer
+) -> Result<(), Refusal>
     ensures { Sampled numbers.now side (weights i j k n) point.old result point.new }
 {
-    let a = check(numbers, side, i, j, k, n);
-    if let Answer::Refused(number, place) = a {
-        return Answer::Refused(number, place);
-    }
-    let x = sample_on(numbers, side, 0, j, k, n);
-    let y = sample_on(numbers, side, 1, j, k, n);
-    let z = sample_on(numbers, side, 2, j, k, n);
-    put_point(point, x, y, z);
-    Answer::Done
-}
-
-// x, y and z.
-fn put_point(point: &mut [i32], x: i32, y: i32, z: i32)
-    requires { length point.old ≡ 3 }
-    ensures { point.new ≡ axes x y z }
-{
-    point[0] = x;
-    point[1] = y;
-    point[2] = z;
+    check(numbers, side, i, j, k, n)?;
+    let place = Place {
+        numbers,
+        side,
+        i,
+        j,
+        k,
+        n,
+    };
+    *point = [place.sample_on(0), place.sample_on(1), place.sample_on(2)];
+    Ok(())
 }
 
 // All samples of a triangle, in rows from the side inwards and each row from the head, into the beginning of a lent list.
-pub fn sample_triangle(numbers: &[i32], side: usize, n: usize, points: &mut [i32]) -> Answer
+pub fn sample_triangle(
+    numbers: &[i32],
+    side: usize,
+    n: usize,
+    points: &mut [i32],
+) -> Result<(), Refusal>
     ensures { TriangleSampled numbers.now side n points.old result points.new }
 {
-    let a = check(numbers, side, n, 0, 0, n);
-    if let Answer::Refused(number, place) = a {
-        return Answer::Refused(number, place);
-    }
+    check(numbers, side, n, 0, 0, n)?;
     let needed = 3 * ((n + 1) * (n + 2) / 2);
     if points.len() < needed {
-        return Answer::Refused(NO_ROOM, needed);
+        return Err(Refusal {
+            number: NO_ROOM,
+            place: needed,
+        });
     }
     put_triangle(numbers, side, n, points);
-    Answer::Done
+    Ok(())
 }
 
 // All its samples, axis by axis.
@@ -83,20 +119,30 @@ fn put_triangle(numbers: &[i32], side: usize, n: usize, points: &mut [i32])
 }
 
 // Checks 18, 19, 32 and 33. The first two are those of a control point in floats, of which point 0 always passes the third.
-fn check(numbers: &[i32], side: usize, i: usize, j: usize, k: usize, n: usize) -> Answer
+fn check(
+    numbers: &[i32],
+    side: usize,
+    i: usize,
+    j: usize,
+    k: usize,
+    n: usize,
+) -> Result<(), Refusal>
     ensures { stated result ≡ sample_verdict numbers.now side (weights i j k n) }
 {
-    let a = floats::check(numbers, 0);
-    if let Answer::Refused(number, place) = a {
-        return Answer::Refused(number, place);
-    }
+    floats::check(numbers, 0)?;
     if 3 < side {
-        return Answer::Refused(32, side);
+        return Err(Refusal {
+            number: 32,
+            place: side,
+        });
     }
     if !is_whole(i, j, k, n) {
-        return Answer::Refused(33, n);
+        return Err(Refusal {
+            number: 33,
+            place: n,
+        });
     }
-    Answer::Done
+    Ok(())
 }
 
 // Whether n is from 1 to 16 and the three weights make it. No sum is formed that could wrap.
@@ -115,18 +161,6 @@ fn is_whole(i: usize, j: usize, k: usize, n: usize) -> bool
     n - i - j == k
 }
 
-// The sample on one axis; the first weight is what is left.
-fn sample_on(numbers: &[i32], side: usize, axis: usize, j: usize, k: usize, n: usize) -> i32
-    requires net { (net_verdict numbers.now ≡ sound) × (side ≤ 3) × (axis < 3) }
-    requires parts { (1 ≤ n) × (n ≤ 16) × (j + k ≤ n) }
-    ensures { (i : ℕ) → i + j + k ≡ n → result ≡ sample_at numbers.now (side_at side) (weights i j k n) axis }
-{
-    let p = control_points(numbers, side, axis);
-    let e = bernstein::row_at(p, k, n);
-    let v = bernstein::value_at(e, j);
-    bernstein::rounded(v, n)
-}
-
 // The tangents at one sample: x, y, z towards the tail, then x, y, z towards the centre.
 pub fn tangents(
     numbers: &[i32],
@@ -136,49 +170,23 @@ pub fn tangents(
     k: usize,
     n: usize,
     pair: &mut [i64; 6],
-) -> Answer
+) -> Result<(), Refusal>
     ensures { TangentsSampled numbers.now side (weights i j k n) pair.old result pair.new }
 {
-    let a = check(numbers, side, i, j, k, n);
-    if let Answer::Refused(number, place) = a {
-        return Answer::Refused(number, place);
-    }
-    let x = tangents_on(numbers, side, 0, j, k, n);
-    let y = tangents_on(numbers, side, 1, j, k, n);
-    let z = tangents_on(numbers, side, 2, j, k, n);
-    put_pair(
-        pair, x.along, y.along, z.along, x.inward, y.inward, z.inward,
-    );
-    Answer::Done
-}
-
-// The first tangent, then the second.
-fn put_pair(pair: &mut [i64], a: i64, b: i64, c: i64, d: i64, e: i64, f: i64)
-    requires { length pair.old ≡ 6 }
-    ensures { pair.new ≡ axes a b c ++ axes d e f }
-{
-    pair[0] = a;
-    pair[1] = b;
-    pair[2] = c;
-    pair[3] = d;
-    pair[4] = e;
-    pair[5] = f;
-}
-
-// Both tangents on one axis.
-fn tangents_on(numbers: &[i32], side: usize, axis: usize, j: usize, k: usize, n: usize) -> Tangent
-    requires net { (net_verdict numbers.now ≡ sound) × (side ≤ 3) × (axis < 3) }
-    requires parts { (1 ≤ n) × (n ≤ 16) × (j + k ≤ n) }
-    ensures { TangentOn numbers.now side axis j k n result }
-{
-    let p = control_points(numbers, side, axis);
-    let c = bernstein::polynomial(p, n);
-    let u = value_in(bernstein::derivatives::along(c), j, k);
-    let v = value_in(bernstein::derivatives::inward(c), j, k);
-    Tangent {
-        along: u,
-        inward: v,
-    }
+    check(numbers, side, i, j, k, n)?;
+    let here = Place {
+        numbers,
+        side,
+        i,
+        j,
+        k,
+        n,
+    };
+    let x = here.tangents_on(0);
+    let y = here.tangents_on(1);
+    let z = here.tangents_on(2);
+    *pair = [x.along, y.along, z.along, x.inward, y.inward, z.inward];
+    Ok(())
 }
 
 // The value of a polynomial at j and k.
@@ -197,14 +205,12 @@ fn put_axis(p: Matrix5, n: usize, points: &mut [i32], axis: usize)
 {
     let mut s = bernstein::start(p, n);
     let mut at = axis;
-    let mut k = 0;
-    while k <= n {
+    for k in 0..n + 1 {
         let count = n - k + 1;
         let e = bernstein::row(s);
         put_row(e, n, 0, count, points, at);
         at += 3 * count;
         s = bernstein::next(s);
-        k += 1;
     }
 }
 
@@ -214,11 +220,8 @@ pub fn put_row(e: Vector5, n: usize, first: usize, count: usize, points: &mut [i
     ensures { RowPut e n first count from points.old points.new }
 {
     let mut g = bernstein::state_at(e, first);
-    let mut j = 0;
-    while j < count {
-        let v = bernstein::rounded(g.a, n);
-        points[from + 3 * j] = v;
+    for j in 0..count {
+        points[from + 3 * j] = bernstein::rounded(g.a, n);
         g = bernstein::step(g);
-        j += 1;
     }
 }

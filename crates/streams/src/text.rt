@@ -1,5 +1,5 @@
 // Text in a lent buffer: each function puts its text at a place, as far as the buffer reaches, and answers where it stopped.
-ghost use Rattle.std.specs.Prelude.{◌≡◌, [], ◌∷◌, ◌++◌, nat_abs};
+ghost use Rattle.std.specs.Prelude.{◌≡◌, [], ◌∷◌, ◌++◌};
 ghost use Rattle.streams.specs.text.Text.{decimal, signed_decimal, Put};
 
 // One byte.
@@ -18,10 +18,8 @@ pub fn put_word(buffer: &mut [u8], at: usize, word: &[u8]) -> usize
     ensures { Put buffer.old at word.now buffer.new result }
 {
     let mut to = at;
-    let mut i = 0;
-    while i < word.len() {
-        to = put_byte(buffer, to, word[i]);
-        i += 1;
+    for byte in word {
+        to = put_byte(buffer, to, *byte);
     }
     to
 }
@@ -35,26 +33,16 @@ pub fn put_number(buffer: &mut [u8], at: usize, n: u64) -> usize
     put_word(buffer, at, &digits[..k])
 }
 
-// The size of a number, without its sign.
-pub(crate) fn size(z: i32) -> u64
-    ensures { result ≡ nat_abs z }
-{
-    let wide = z as i64;
-    if wide < 0 {
-        return (0 - wide) as u64;
-    }
-    wide as u64
-}
-
 // A signed number in decimal.
 pub(crate) fn put_signed(buffer: &mut [u8], at: usize, z: i32) -> usize
     ensures { Put buffer.old at (signed_decimal z) buffer.new result }
 {
+    let size = u64::from(z.unsigned_abs());
     if z < 0 {
         let to = put_byte(buffer, at, b'-');
-        return put_number(buffer, to, size(z));
+        return put_number(buffer, to, size);
     }
-    put_number(buffer, at, size(z))
+    put_number(buffer, at, size)
 }
 
 // A signed number, and the byte that ends it.

@@ -17,7 +17,7 @@ use Rattle.mesh.proofs.Fills.{filled_step}
 use Rattle.strips.specs.declared.NumberedRow.{NumberedRow}
 use Rattle.strips.specs.PointRows.{row_number, over_number, under_number, strip_number, FilledTo, Fills, three}
 use Rattle.strips.proofs.Cases.{test_equal, by_last}
-use Rattle.strips.proofs.Strips.{apex_rises, foot_head, foot_tail, step_at, foot_at}
+use Rattle.strips.proofs.Strips.{foot_head, foot_tail, step_at, foot_at}
 
 -- ---- the number at a place
 module _ (r : NumberedRow) (j : ℕ) where
@@ -67,21 +67,6 @@ ring_wraps start side w last h o =
 -- ---- shares and steps
 pub times_few : (a b : ℕ) → a ≤ 64 → b ≤ 64 → a * b ≤ 64 * 64
 times_few a b h l = mul-le-mul h l
-
-pub share_less : (p u j : ℕ) → 1 ≤ u → u ≤ p → j < p → (2 * j + 1) * u / (2 * p) < u
-share_less p u j a b h = (apex_rises side0 p u a b).below j h
-
-pub apex_even : (side p u j : ℕ) → side ≤ 3 → side % 2 ≡ 0 → (2 * j + 1) * u / (2 * p) ≡ apex (side_at side) p u j
-apex_even zero p u j h e = refl
-apex_even (suc zero) p u j h e = absurd (omega arith)
-apex_even (suc (suc zero)) p u j h e = refl
-apex_even (suc (suc (suc n))) p u j h e = absurd (omega arith)
-
-pub apex_odd : (side p u j : ℕ) → side ≤ 3 → (side % 2 ≡ 0 → ⊥) → u - 1 - (2 * (p - 1 - j) + 1) * u / (2 * p) ≡ apex (side_at side) p u j
-apex_odd zero p u j h e = absurd (e refl)
-apex_odd (suc zero) p u j h e = refl
-apex_odd (suc (suc zero)) p u j h e = absurd (e refl)
-apex_odd (suc (suc (suc n))) p u j h e = refl
 
 module _ (p u i : ℕ) (most : u ≤ p) (h : i + 1 < u) where
   pub step_less : ((i + 1) * (2 * p) + (u - 1)) / (2 * u) < p

@@ -45,7 +45,7 @@ fn over(side: usize, p: usize, u: usize, j: usize) -> usize
     u - 1 - share(p, u, p - 1 - j)
 }
 
-// The same from the head.
+// The same from the head. Another formula than that of `step`: one function for both would be no plainer.
 fn share(p: usize, u: usize, j: usize) -> usize
     requires { (1 ≤ u) × (u ≤ p) × (p ≤ 16) × (j < p) }
     ensures { (result ≡ (2 * j + 1) * u / (2 * p)) × (result < u) }
@@ -89,13 +89,11 @@ fn put_over(side: usize, lower: NumberedRow, upper: NumberedRow, out: &mut [u32]
 {
     let p = lower.parts;
     let u = upper.parts + 1;
-    let mut t = 0;
-    while t < p {
+    for t in 0..p {
         let a = number(lower, t);
         let b = number(lower, t + 1);
         let c = number(upper, over(side, p, u, t));
         put_three(out, at + 3 * t, a, b, c);
-        t += 1;
     }
 }
 
@@ -106,13 +104,11 @@ fn put_under(side: usize, lower: NumberedRow, upper: NumberedRow, out: &mut [u32
 {
     let p = lower.parts;
     let w = upper.parts;
-    let mut i = 0;
-    while i < w {
+    for i in 0..w {
         let a = number(upper, i + 1);
         let b = number(upper, i);
         let c = number(lower, under(side, p, w + 1, i));
         put_three(out, at + 3 * i, a, b, c);
-        i += 1;
     }
 }
 
@@ -120,12 +116,7 @@ fn put_under(side: usize, lower: NumberedRow, upper: NumberedRow, out: &mut [u32
 fn rises(row: NumberedRow) -> bool
     ensures { result ≡ true → RisingRow row }
 {
-    if row.up {
-        if row.first < row.base {
-            return row.base - row.first == 1;
-        }
-    }
-    false
+    row.up && row.first < row.base && row.base - row.first == 1
 }
 
 // Whether a strip is plain: both rows rise, and a point stands over each lower segment.
@@ -133,12 +124,7 @@ fn is_plain(lower: NumberedRow, upper: NumberedRow) -> bool
     requires { upper.parts < lower.parts }
     ensures { result ≡ true → PlainStrip lower upper }
 {
-    if lower.parts == upper.parts + 1 {
-        if rises(lower) {
-            return rises(upper);
-        }
-    }
-    false
+    lower.parts == upper.parts + 1 && rises(lower) && rises(upper)
 }
 
 // The triangles of a plain strip, in a second way, without divisions and without a row's cases: those over the lower segments. All strips of a net
@@ -148,12 +134,10 @@ fn put_over_plain(side: usize, lower: NumberedRow, upper: NumberedRow, out: &mut
     ensures { Fills (strip_number (side_at side) lower upper) at (3 * lower.parts) out.old out.new }
 {
     let w = upper.parts;
-    let mut t = 0;
-    while t < w {
+    for t in 0..w {
         let a = lower.first + t as u32;
         let c = upper.first + t as u32;
         put_three(out, at + 3 * t, a, a + 1, c);
-        t += 1;
     }
     let a = lower.first + w as u32;
     let c = number(upper, w);
@@ -169,12 +153,10 @@ fn put_under_plain(side: usize, lower: NumberedRow, upper: NumberedRow, out: &mu
         return;
     }
     let w = upper.parts - 1;
-    let mut i = 0;
-    while i < w {
+    for i in 0..w {
         let b = upper.first + i as u32;
         let c = lower.base + i as u32;
         put_three(out, at + 3 * i, b + 1, b, c);
-        i += 1;
     }
     let b = upper.first + w as u32;
     let c = lower.base + w as u32;
@@ -208,7 +190,7 @@ pub fn ring_row(start: u32, side: usize, w: usize) -> NumberedRow
     }
     NumberedRow {
         first: at,
-        last: last,
+        last,
         base: at + 1,
         parts: w,
         up: true,

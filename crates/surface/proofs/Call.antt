@@ -9,10 +9,9 @@ use lib.Dec.{eqb}
 use lib.ListN.{get_or}
 use lib.IntN.{ℤ, pos}
 use Rattle.paper.specs.Mesh.{Mesh, corner_count}
-use Rattle.paper.specs.Faults.{link_verdict, Accepted}
+use Rattle.paper.specs.Faults.{link_verdict, Accepted, done}
 use Rattle.paper.specs.Numbers.{rounded}
 use Rattle.paper.specs.Calls.{per_corner, number_at, nets, build_verdict, fault16, Built}
-use Rattle.paper.specs.declared.Answer.TheVariants.{Done}
 use Rattle.mesh.proofs.Verdicts.{sound_left, sound_right, single_sound}
 use Rattle.mesh.proofs.Links.{values_at}
 
@@ -20,7 +19,7 @@ or_right : (x y : Bool) → x || y ≡ false → y ≡ false
 or_right true y e = absurd (true≢false e)
 or_right false y e = e
 
-module _ (M : Mesh) (links : List ℕ) (first count : ℕ) (old out : List ℤ) (w : Built M links first count old Done out) where
+module _ (M : Mesh) (links : List ℕ) (first count : ℕ) (old out : List ℤ) (w : Built M links first count old done out) where
   pub accepted : Accepted M
   unfolding build_verdict link_verdict
   accepted = sound_left _ _ (sound_left _ _ (sym w.answers))

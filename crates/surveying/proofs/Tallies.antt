@@ -1,19 +1,20 @@
 -- A tally grows by one number: its own entry by one, no other.
 use mathlib.Core.Path.{◌≡◌, ap, ◌∙◌, sym}
 use mathlib.Core.Logic.{⊎_elim}
-use mathlib.Core.List.{List}
+use mathlib.Core.List.{List, map}
 use Prim.Native.Nat.{ℕ, suc, ◌+◌, ◌<◌, ◌≤◌}
 use native.Mathlib.Numerals.{add-one}
 use native.Mathlib.Omega.{arith}
 use lib.ListN.{length, get_or, set, replicate, length-set, length-replicate, get_or-replicate, get_or-eq_default}
-use lib.Seq.{get_or-set_same, get_or-set_other, ext_get_or}
-use borrow.Author.Tests.{eqb-true, eqb-false, ltb-true, ltb-false}
-use lib.Dec.{ltb}
+use lib.Seq.{set_out, get_or-set_same, get_or-set_other, ext_get_or}
+use borrow.Author.Tests.{eqb-true, eqb-false}
 use Rattle.paper.specs.Scan.{count_below}
+use Rattle.mesh.proofs.ByCases.{by_equal, by_less}
 use Rattle.mesh.proofs.Scans.{ways}
 use Rattle.mesh.proofs.Links.{values_length, values_at}
 use Rattle.mesh.proofs.Rings.{count_hit, count_miss, count_le}
-use Rattle.surveying.specs.Tally.{stands, tally_to}
+use Rattle.std.proofs.lemmas.List.{get_or-map, map-id}
+use Rattle.surveying.specs.Tally.{stands, tally_to, tally_of, Numbers}
 
 pub tally_length : (values : List ℕ) (i size : ℕ) → length (tally_to values i size) ≡ size
 unfolding tally_to
@@ -26,14 +27,6 @@ pub tally_at : (values : List ℕ) (i size m : ℕ) → m < size → get_or (tal
 unfolding tally_to
 tally_at values i size m h =
     values_at (λ k. count_below i (stands values k)) 0 0 size m h ∙ ap (λ (k : ℕ). count_below i (stands values k)) (zero_add m)
-
--- an entry is at most the number of values
-pub tally_le : (values : List ℕ) (i size m : ℕ) → get_or (tally_to values i size) m 0 ≤ i
-tally_le values i size m =
-    ⊎_elim
-    (λ l. omega (arith, tally_at values i size m (ltb-true _ _ l), count_le (stands values m) i))
-    (λ l. omega (arith, get_or-eq_default (tally_to values i size) 0 {n = m} (omega (arith, tally_length values i size, ltb-false m size l))))
-    (ways (ltb m size))
 
 pub tally_none : (values : List ℕ) (size : ℕ) → replicate size 0 ≡ tally_to values 0 size
 tally_none values size =
@@ -66,10 +59,29 @@ module _ (values : List ℕ) (i size : ℕ) where
       (length-set before x (get_or before x 0 + 1) ∙ tally_length values i size ∙ sym (tally_length values (suc i) size))
       (λ m h. grown m (omega (arith, length-set before x (get_or before x 0 + 1), tally_length values i size))))
 
--- a turn of the loop, whatever the table is called
-module _ (values table : List ℕ) (i size : ℕ) (e : table ≡ tally_to values i size) where
-  pub tally_room : (m : ℕ) → i < 65535 → get_or table m 0 < 65535
-  tally_room m h = rw e (omega (arith, tally_le values i size m))
+pub none_above : (table : List ℕ) → table ≡ replicate (length table) 0 → (m : ℕ) → get_or table m 0 ≤ 0
+none_above table e m =
+    by_less m (length table)
+    (λ l. omega (arith, ap (λ (t : List ℕ). get_or t m 0) e, get_or-replicate {A = ℕ} (length table) m 0 0 l))
+    (λ l. omega (arith, get_or-eq_default table 0 {n = m} l))
 
-  pub tally_turn : set table (get_or values i 0) (get_or table (get_or values i 0) 0 + 1) ≡ tally_to values (i + 1) size
-  tally_turn = rw e (tally_step values i size)
+-- no entry of a table passes i, and one more of x leaves none above i + 1
+pub raised : (table : List ℕ) (x i : ℕ) → ((m : ℕ) → get_or table m 0 ≤ i) → (m : ℕ) → get_or (set table x (get_or table x 0 + 1)) m 0 ≤ i + 1
+raised table x i h m =
+    by_equal m x
+    (λ q. by_less x (length table)
+    (λ l. omega (arith, h x, ap (λ (k : ℕ). get_or (set table x (get_or table x 0 + 1)) k 0) q, get_or-set_same table x (get_or table x 0 + 1) 0 l))
+    (λ l. omega (arith, h m, ap (λ (t : List ℕ). get_or t m 0) (set_out table x (get_or table x 0 + 1) l))))
+    (λ n. omega (arith, h m, get_or-set_other table x m (get_or table x 0 + 1) 0 n))
+
+-- a turn of the loop over values of any type, each of which has a number
+pub tally_turn : {T : Type 0} (number : T → ℕ) (values : List T) (table : List ℕ) (i size m : ℕ) (x : T) → i < length values → x ≡ get_or values i x
+    → m ≡ number x → table ≡ tally_to (map number values) i size → set table m (get_or table m 0 + 1) ≡ tally_to (map number values) (i + 1) size
+tally_turn number values table i size m x h q n e =
+    let at : get_or (map number values) i 0 ≡ m = get_or-map number values i x 0 h ∙ ap number (sym q) ∙ sym n in
+    rw (e, ← at) (tally_step (map number values) i size)
+
+-- of values that are numbers themselves
+pub counted : {table : List ℕ} (size : ℕ) (values : List ℕ) → ((number : ℕ → ℕ) → Numbers (λ x y. y ≡ x) number → table ≡ tally_of (map number values) size)
+    → table ≡ tally_of values size
+counted size values h = h (λ x. x) (λ x n e. e) ∙ ap (λ (l : List ℕ). tally_of l size) (map-id values)

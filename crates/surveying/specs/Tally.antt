@@ -1,5 +1,5 @@
 -- A tally of a list: how often each number stands in it.
-use Rattle.std.specs.Prelude.{Bool, List, ℕ, eqb, length, get_or}
+use Rattle.std.specs.Prelude.{◌≡◌, Bool, List, ℕ, eqb, length, get_or}
 use Rattle.paper.specs.Scan.{count_below, values_from}
 
 -- the value at j is m
@@ -12,3 +12,7 @@ tally_to values i size = values_from (λ m. count_below i (stands values m)) 0 s
 
 abbrev pub tally_of : List ℕ → ℕ → List ℕ
 tally_of values size = tally_to values (length values) size
+
+-- what a conversion gives of each value is its number
+abbrev pub Numbers : {T : Type 0} → (T → ℕ → Type 0) → (T → ℕ) → Type 0
+Numbers {T} converts number = (x : T) (n : ℕ) → converts x n → n ≡ number x

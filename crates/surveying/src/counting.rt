@@ -1,10 +1,10 @@
 // The counts that `inspect` prints: vertices, faces and corners, and how many vertices have m corners and faces m sides.
 // A tally says how often each number stands in a list. The corner list's tally holds the corners of each vertex; the tally of
 // those, and that of the side counts, are the numbers for each m.
-ghost use Rattle.std.specs.Prelude.{◌≡◌, List, ℕ, ◌+◌, ◌/◌, ◌<◌, ◌≤◌, length, get_or, set, replicate};
+ghost use Rattle.std.specs.Prelude.{◌≡◌, List, map, ℕ, ◌+◌, ◌/◌, ◌<◌, ◌≤◌, length, get_or, set, replicate};
 ghost use Rattle.paper.specs.Mesh.{most_vertices, most_faces, most_corners, mesh_of};
 ghost use Rattle.paper.specs.Counts.{Counted};
-ghost use Rattle.surveying.specs.Tally.{tally_of};
+ghost use Rattle.surveying.specs.Tally.{Numbers, tally_of};
 
 use paper::{Counts, MOST_VERTICES, NUMBERS};
 
@@ -14,32 +14,17 @@ fn count_one(table: &mut [u16], m: usize)
     ensures { table.new ≡ set table.old m (get_or table.old m 0 + 1) }
 {
     if m < table.len() {
-        let n = table[m];
-        table[m] = n + 1;
+        table[m] += 1;
     }
 }
 
-// The tally of 16-bit numbers.
-fn tally(values: &[u16], table: &mut [u16])
+// The tally of a list of numbers, of whatever type.
+fn tally<T: Copy + Into<usize>>(values: &[T], table: &mut [u16])
     requires { (length values.now ≤ 65535) × (table.old ≡ replicate (length table.old) 0) }
-    ensures { table.new ≡ tally_of values.now (length table.old) }
+    ensures { (number : T → ℕ) → Numbers T.converts number → table.new ≡ tally_of (map number values.now) (length table.old) }
 {
-    let mut i = 0;
-    while i < values.len() {
-        count_one(table, values[i] as usize);
-        i += 1;
-    }
-}
-
-// The tally of bytes.
-fn tally_bytes(values: &[u8], table: &mut [u16])
-    requires { (length values.now ≤ 65535) × (table.old ≡ replicate (length table.old) 0) }
-    ensures { table.new ≡ tally_of values.now (length table.old) }
-{
-    let mut i = 0;
-    while i < values.len() {
-        count_one(table, values[i] as usize);
-        i += 1;
+    for x in values {
+        count_one(table, (*x).into());
     }
 }
 
@@ -54,12 +39,12 @@ pub(crate) fn count(coordinates: &[i32], sides: &[u8], corners: &[u16]) -> Count
     let mut cornered = [0u16; NUMBERS];
     tally(&valences[..vertices], &mut cornered);
     let mut sided = [0u16; NUMBERS];
-    tally_bytes(sides, &mut sided);
+    tally(sides, &mut sided);
     Counts {
-        vertices: vertices,
+        vertices,
         faces: sides.len(),
         corners: corners.len(),
-        cornered: cornered,
-        sided: sided,
+        cornered,
+        sided,
     }
 }

@@ -5,18 +5,17 @@ ghost use Rattle.paper.specs.Faults.{stated};
 ghost use Rattle.paper.specs.File.{begins};
 ghost use Rattle.paper.specs.CFace.{States, counts_of};
 
-use paper::{Answer, Counts};
+use paper::{Counts, Refusal};
 
 // 0 for done, else the refusal's number, and then its place.
-pub fn tell(a: Answer, place: &mut u64) -> u32
+pub fn tell(a: Result<(), Refusal>, place: &mut u64) -> u32
     ensures { States (stated a) place.old result place.new }
 {
     match a {
-        Answer::Done => 0,
-        Answer::Refused(number, at) => {
-            let n = number as u32;
-            *place = at as u64;
-            n
+        Ok(()) => 0,
+        Err(refusal) => {
+            *place = refusal.place as u64;
+            u32::from(refusal.number)
         }
     }
 }
@@ -36,8 +35,6 @@ pub fn tell_counts(
     *vertices = counts.vertices as u64;
     *faces = counts.faces as u64;
     *corners = counts.corners as u64;
-    let by_corners = counts.cornered;
-    mesh::copy_halves(&by_corners, cornered);
-    let by_sides = counts.sided;
-    mesh::copy_halves(&by_sides, sided);
+    mesh::copy(&counts.cornered, cornered);
+    mesh::copy(&counts.sided, sided);
 }

@@ -6,26 +6,25 @@ use Prim.Native.Nat.{ℕ, ◌+◌, ◌-◌, ◌<◌, ◌≤◌}
 use native.Mathlib.Omega.{arith}
 use lib.Dec.{eqb}
 use lib.ListN.{length, get_or, set, replicate, get_or-replicate}
+use Rattle.std.proofs.Common.{zero-add}
 use lib.Seq.{get_or-set_same, get_or-set_other, ext_get_or}
-use borrow.Author.Count.{below_more}
 use borrow.Author.Tests.{eqb-true, eq-eqb, ne_eqb, le-leb, lt-leb}
 use Rattle.paper.specs.Scan.{pick_n, first_below, some_below}
 use Rattle.paper.specs.Mesh.{most_vertices, Mesh, vertex_count, corner_count}
 use Rattle.paper.specs.Corners.{sum_of, face_of, start_of}
 use Rattle.paper.specs.Links.{vertex_of, names}
-use Rattle.paper.specs.Faults.{sound, verdict, stated, Accepted}
+use Rattle.paper.specs.Faults.{sound, verdict, stated, Accepted, Answer, done}
 use Rattle.paper.specs.File.{no_room}
-use Rattle.paper.specs.declared.Answer.{Answer}
-use Rattle.paper.specs.declared.Answer.TheVariants.{Done, Refused}
 use Rattle.paper.specs.Preview.{fault29, vertex_verdict, has_vertex, touches_at, touch_marks, touched_verdict, Touched}
 use Rattle.mesh.specs.Tables.{Named}
 use Rattle.mesh.proofs.Scans.{and_true, and_left, and_right, some_true, some_false, some_below_lem, some_passes, none, fails_step}
 use Rattle.mesh.proofs.ByCases.{by_test, by_equal, true_both}
 use Rattle.mesh.proofs.Faces.{OfFace, held, face_at, start_ends}
 use Rattle.mesh.proofs.Links.{values_length, values_at}
-use Rattle.mesh.proofs.Verdicts.{or_else_fault, or_else_sound, single_hit, single_miss}
+use Rattle.mesh.proofs.Verdicts.{or_else_fault, or_else_sound, single_hit, single_miss, refusing}
 use Rattle.mesh.proofs.Accepted.{sound_of, few_vertices, sums_of}
 use Rattle.face_sums.specs.Sums.{FacesWithin}
+use Rattle.face_sums.proofs.Parts.{part, part_length, part_at}
 use Rattle.refine.proofs.Accepted.{faces_of_lem, vertex_in}
 use Rattle.touching.specs.Sharing.{among, AllMarked, FaceMarked, in_face, SharingMarked}
 
@@ -46,6 +45,12 @@ some_step n f =
     (λ q. rw q (some_true (n + 1) f n (omega arith) q))
     (λ q. rw q (some_false (n + 1) f (fails_step f n (none n f e) q)))))
 
+some_same : (n : ℕ) (f g : ℕ → Bool) → ((j : ℕ) → j < n → f j ≡ g j) → some_below n f ≡ some_below n g
+some_same n f g h =
+    by_test (some_below n f)
+    (λ e. let l = some_below_lem n f e in e ∙ sym (some_true n g (first_below n f) l (sym (h _ l) ∙ some_passes n f e)))
+    (λ e. e ∙ sym (some_false n g (λ j l. sym (h j l) ∙ none n f e j l)))
+
 pick_or : (a b : Bool) (x : ℕ) → pick_n (a || b) 1 x ≡ pick_n b 1 (pick_n a 1 x)
 pick_or true true x = refl
 pick_or true false x = refl
@@ -60,6 +65,21 @@ among_none corners start w = some_false 0 _ (λ j h. absurd (omega arith))
 among_step : (corners : List ℕ) (start n w : ℕ) → among corners start (n + 1) w ≡ (among corners start n w || names corners w (start + n))
 unfolding among
 among_step corners start n w = some_step n (λ j. names corners w (start + j))
+
+-- of a face's own list of corners, which is a part of the list of all
+module _ (corners : List ℕ) (start n end : ℕ) (e : end ≡ start + n) (fits : end ≤ length corners) where
+  abbrev own : List ℕ
+  own = part corners start n end e fits
+
+  among_part : (w : ℕ) → among own 0 (length own) w ≡ among corners start n w
+  unfolding among names
+  among_part w =
+      rw (part_length corners start n end e fits)
+      (some_same n (λ j. names own w (0 + j)) (λ j. names corners w (start + j))
+      (λ j h. ap (λ (v : ℕ). eqb v w) (ap (vertex_of own) (zero-add j) ∙ part_at corners start n end e fits j h)))
+
+  pub face_part : (u : ℕ) (before after : List ℕ) → FaceMarked own u 0 (length own) before after → FaceMarked corners u start n before after
+  face_part u before after m w h = rw (← among_part u, ← among_part w) (m w h)
 
 -- one corner further
 module _ (corners : List ℕ) (start n u : ℕ) where
@@ -186,13 +206,6 @@ module _ (corners sharing : List ℕ) where
   abbrev pub MarksCopied : List ℕ → ℕ → Type 0
   MarksCopied marks c = (d : ℕ) → d < c → get_or marks d 0 ≡ get_or sharing (vertex_of corners d) 0
 
-  pub copied_step : (marks : List ℕ) (c : ℕ) → c < length marks → MarksCopied marks c → MarksCopied (set marks c (get_or sharing (vertex_of corners c) 0)) (c + 1)
-  copied_step marks c h k =
-      let x = get_or sharing (vertex_of corners c) 0 in
-      below_more (λ d. get_or (set marks c x) d 0 ≡ get_or sharing (vertex_of corners d) 0) c
-      (λ d l. get_or-set_other marks c d x 0 (λ q. omega arith) ∙ k d l)
-      (get_or-set_same marks c x 0 h)
-
 module _ (sides corners : List ℕ) (u : ℕ) where
   marks_length : length (touch_marks sides corners u) ≡ length corners
   unfolding touch_marks
@@ -225,7 +238,7 @@ module _ (M : Mesh) (a : Accepted M) where
 
 -- ---- the ways out
 module _ (M : Mesh) (u : ℕ) (old : List ℕ) where
-  pub touched_none : vertex_count M ≤ u → Touched M u old (Refused 29 u) old
+  pub touched_none : vertex_count M ≤ u → Touched M u old (refusing 29 u) old
   unfolding touched_verdict fault29
   touched_none h = record { answers = sym (or_else_fault 29 u _ (single_hit 29 u (le-leb _ _ h))); holds = refl }
 
@@ -234,13 +247,13 @@ module _ (M : Mesh) (u : ℕ) (old : List ℕ) where
     unfolding fault29
     passes = single_miss 29 u (lt-leb _ _ h)
 
-    pub touched_refused : {a : Answer} {k p : ℕ} → stated a ≡ verdict M → a ≡ Refused k p → Touched M u old (Refused k p) old
+    pub touched_refused : {a : Answer} {k p : ℕ} → stated a ≡ verdict M → a ≡ refusing k p → Touched M u old (refusing k p) old
     unfolding touched_verdict
     touched_refused {k = k} {p = p} e q =
         record { answers = sym (or_else_sound _ passes ∙ or_else_fault k p _ (sym e ∙ ap stated q)); holds = refl }
 
     module _ (a : Accepted M) where
-      pub touched_no_room : (length old ≡ corner_count M → ⊥) → Touched M u old (Refused no_room (corner_count M)) old
+      pub touched_no_room : (length old ≡ corner_count M → ⊥) → Touched M u old (refusing no_room (corner_count M)) old
       unfolding touched_verdict
       touched_no_room n =
           record {
@@ -249,7 +262,7 @@ module _ (M : Mesh) (u : ℕ) (old : List ℕ) where
             holds = refl;
           }
 
-      pub touched_done : length old ≡ corner_count M → {out : List ℕ} → out ≡ touch_marks M.sides M.corners u → Touched M u old Done out
+      pub touched_done : length old ≡ corner_count M → {out : List ℕ} → out ≡ touch_marks M.sides M.corners u → Touched M u old done out
       unfolding touched_verdict
       touched_done e m =
           record {

@@ -1,7 +1,7 @@
 #![tactic(auto)]
 // L9, for dragging: marks the corners whose quad-nets a vertex can change, in one pass over the faces and one over the corners.
 ghost use Rattle.std.specs.Prelude.{◌≡◌, ℕ, ◌+◌, ◌<◌, ◌≤◌, length, get_or, replicate};
-ghost use Rattle.paper.specs.Mesh.{mesh_of, most_vertices};
+ghost use Rattle.paper.specs.Mesh.{most_vertices, of_lists};
 ghost use Rattle.paper.specs.Corners.{sum_of};
 ghost use Rattle.paper.specs.Links.{vertex_of};
 ghost use Rattle.mesh.specs.Tables.{Named};
@@ -9,31 +9,27 @@ ghost use Rattle.face_sums.specs.Sums.{FacesWithin};
 ghost use Rattle.paper.specs.Preview.{touch_marks, Touched};
 ghost use Rattle.touching.specs.Sharing.{among, AllMarked, FaceMarked, SharingMarked};
 
-use paper::{Answer, MOST_VERTICES, NO_ROOM, NO_VERTEX};
+use paper::{MOST_VERTICES, MeshLists, NO_ROOM, NO_VERTEX, Refusal};
 
 // A mark for each corner: 1 where the vertex can change its quad-net, else 0. Nothing is written before the last check has passed.
-pub fn touched(
-    coordinates: &[i32],
-    sides: &[u8],
-    corners: &[u16],
-    sharpness: &[u8],
-    vertex: usize,
-    marks: &mut [u8],
-) -> Answer
-    ensures { Touched (mesh_of coordinates.now sides.now corners.now sharpness.now) vertex marks.old result marks.new }
+pub fn touched(lists: MeshLists, vertex: usize, marks: &mut [u8]) -> Result<(), Refusal>
+    ensures { Touched (of_lists lists.entry) vertex marks.old result marks.new }
 {
-    if coordinates.len() / 3 <= vertex {
-        return Answer::Refused(NO_VERTEX, vertex);
+    if lists.coordinates.len() / 3 <= vertex {
+        return Err(Refusal {
+            number: NO_VERTEX,
+            place: vertex,
+        });
     }
-    let a = checks::check(coordinates, sides, corners, sharpness);
-    if let Answer::Refused(k, p) = a {
-        return Answer::Refused(k, p);
+    checks::check(lists)?;
+    if marks.len() != lists.corners.len() {
+        return Err(Refusal {
+            number: NO_ROOM,
+            place: lists.corners.len(),
+        });
     }
-    if marks.len() != corners.len() {
-        return Answer::Refused(NO_ROOM, corners.len());
-    }
-    mark(sides, corners, vertex, marks);
-    Answer::Done
+    mark(lists.sides, lists.corners, vertex, marks);
+    Ok(())
 }
 
 // The marks of a mesh that passes: its vertices are marked first, then its corners.
@@ -54,52 +50,43 @@ fn mark_vertices(sides: &[u8], corners: &[u16], vertex: usize, sharing: &mut [u8
     ensures { SharingMarked sides.now corners.now vertex (length sides.now) sharing.new }
 {
     let mut start = 0;
-    let mut f = 0;
-    while f < sides.len() {
-        let n = sides[f] as usize;
-        mark_face(corners, vertex, start, n, sharing);
-        start += n;
-        f += 1;
+    for n in sides {
+        let end = start + *n as usize;
+        mark_face(&corners[start..end], vertex, sharing);
+        start = end;
     }
 }
 
-// Marks the vertices of a face of n corners that has this one.
-fn mark_face(corners: &[u16], vertex: usize, start: usize, n: usize, sharing: &mut [u8])
-    requires { (start + n ≤ length corners.now) × Named corners.now (length sharing.old) }
-    ensures { FaceMarked corners.now vertex start n sharing.old sharing.new }
+// Marks the vertices of a face that has this one, by its corners.
+fn mark_face(face: &[u16], vertex: usize, sharing: &mut [u8])
+    requires { Named face.now (length sharing.old) }
+    ensures { FaceMarked face.now vertex 0 (length face.now) sharing.old sharing.new }
 {
-    if has_vertex(corners, vertex, start, n) {
-        mark_all(corners, start, n, sharing);
+    if has_vertex(face, vertex) {
+        mark_all(face, sharing);
     }
 }
 
-// Whether one of n corners from `start` on is at the vertex. It looks at all of them: that is no slower than to stop at the first.
-fn has_vertex(corners: &[u16], vertex: usize, start: usize, n: usize) -> bool
-    requires { start + n ≤ length corners.now }
-    ensures { result ≡ among corners.now start n vertex }
+// Whether one of the corners is at the vertex. It looks at all of them: that is no slower than to stop at the first.
+fn has_vertex(face: &[u16], vertex: usize) -> bool
+    ensures { result ≡ among face.now 0 (length face.now) vertex }
 {
     let mut found = false;
-    let mut j = 0;
-    while j < n {
-        let u = corners[start + j] as usize;
-        if u == vertex {
+    for u in face {
+        if *u as usize == vertex {
             found = true;
         }
-        j += 1;
     }
     found
 }
 
-// Marks the vertices of n corners from `start` on.
-fn mark_all(corners: &[u16], start: usize, n: usize, sharing: &mut [u8])
-    requires { (start + n ≤ length corners.now) × Named corners.now (length sharing.old) }
-    ensures { AllMarked corners.now start n sharing.old sharing.new }
+// Marks the vertices of the corners, beside those that are marked. refine::mark_vertices asks for a table of zeros, and promises no more than it needs.
+fn mark_all(face: &[u16], sharing: &mut [u8])
+    requires { Named face.now (length sharing.old) }
+    ensures { AllMarked face.now 0 (length face.now) sharing.old sharing.new }
 {
-    let mut j = 0;
-    while j < n {
-        let u = corners[start + j] as usize;
-        sharing[u] = 1;
-        j += 1;
+    for u in face {
+        sharing[*u as usize] = 1;
     }
 }
 
@@ -108,10 +95,8 @@ fn mark_corners(corners: &[u16], sharing: &[u8], marks: &mut [u8])
     requires { Named corners.now (length sharing.now) × (length marks.old ≡ length corners.now) }
     ensures { (c : ℕ) → c < length corners.now → get_or marks.new c 0 ≡ get_or sharing.now (vertex_of corners.now c) 0 }
 {
-    let mut c = 0;
-    while c < corners.len() {
+    for c in 0..corners.len() {
         let u = corners[c] as usize;
         marks[c] = sharing[u];
-        c += 1;
     }
 }

@@ -6,7 +6,8 @@ use Rattle.paper.specs.Calls.{nets}
 use Rattle.paper.specs.Triangles.{level, segments, group_size, coordinate_at}
 use Rattle.net_points.specs.declared.writing.Shape.{Shape}
 use Rattle.strips.specs.PointRows.{Stands}
-use Rattle.numbering.specs.Meshed.{Of}
+use Rattle.numbering.specs.declared.CornerTables.{CornerTables}
+use Rattle.numbering.specs.Meshed.{OfTables}
 
 -- the shape of corner c
 pub record ShapeOf (M : Mesh) (levels : List ℕ) (c : ℕ) (s : Shape) : Type 0 where
@@ -22,7 +23,7 @@ abbrev pub Pointed : Mesh → List ℕ → ℕ → ℕ → ℕ → ℕ → List 
 Pointed M levels = Stands (coordinate_at M levels)
 
 -- the nets of a mesh's corners from `first` on
-pub record Netted (corners low table levels : List ℕ) (numbers : List ℤ) (first count : ℕ) : Type 0 where
+pub record Netted (T : CornerTables) (numbers : List ℤ) (first count : ℕ) : Type 0 where
   pub mesh : Mesh
-  pub is : Of mesh corners low table levels
+  pub is : OfTables mesh T
   pub numbers_are : numbers ≡ nets mesh first count

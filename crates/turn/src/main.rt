@@ -2,12 +2,10 @@
 // Turns the faces of the mesh file on standard input that are drawn the wrong way round: the turned file, of the version that the input has, goes to
 // standard output, and the turned faces to standard error, one number a line. A file that is turned down gets the line `refused`, with number and
 // place, on standard error, and nothing on standard output.
-ghost use Rattle.std.specs.Prelude.{◌≤◌, length};
 ghost use Rattle.dms_lists.specs.header.ListsWithin.{ListsWithin};
 
 use lines::{complain_refusal, put_ended};
-use mesh::{least, wide};
-use paper::{Answer, MOST_CORNERS, MOST_FACES, MOST_NUMBERS, MOST_PAIRS};
+use paper::{MOST_CORNERS, MOST_FACES, MOST_NUMBERS, MOST_PAIRS, MeshLists, Refusal};
 use print::file_input::{BUFFER, read_file};
 use streams::output::{complain, complain_up_to, say_up_to};
 
@@ -25,21 +23,17 @@ fn main(rt: HostRuntime) {
 // Reads the file.
 fn turn_input(rt: HostRuntime) {
     let mut bytes = [0u8; BUFFER];
-    let read = read_file(rt, &mut rt.stdin(), b"standard input", &mut bytes);
-    let held = read.held;
-    if read.ok {
-        turn_file(rt, &bytes[..held], read.counted);
+    if let Ok(read) = read_file(rt, &mut rt.stdin(), b"standard input", &mut bytes) {
+        turn_file(rt, &bytes[..read.held], read.counted);
     }
 }
 
 // Checks what the header says: 1 to 3, and 4.
 fn turn_file(rt: HostRuntime, file: &[u8], counted: usize) {
-    let header = dms_lists::header::check_header(file, counted);
-    if let Answer::Refused(number, place) = header {
-        complain_refusal(rt, number, place);
-        return;
+    match dms_lists::header::check_header(file, counted) {
+        Ok(()) => turn_lists(rt, file),
+        Err(Refusal { number, place }) => complain_refusal(rt, number, place),
     }
-    turn_lists(rt, file);
 }
 
 // Reads the lists of a file whose header passes.
@@ -58,9 +52,9 @@ fn turn_lists(rt: HostRuntime, file: &[u8])
         &mut sharpness,
     );
     let sharp = dms_lists::header::is_sharp(file);
-    let numbers = least(3 * dms_lists::header::vertex_count(file), MOST_NUMBERS);
-    let faces = least(dms_lists::header::face_count(file), MOST_FACES);
-    let count = least(dms_lists::header::corner_count(file), MOST_CORNERS);
+    let numbers = (3 * dms_lists::header::vertex_count(file)).min(MOST_NUMBERS);
+    let faces = dms_lists::header::face_count(file).min(MOST_FACES);
+    let count = dms_lists::header::corner_count(file).min(MOST_CORNERS);
     let pairs = 2 * count;
     turn_mesh(
         rt,
@@ -82,7 +76,7 @@ fn turn_mesh(
     sharpness: &mut [u8],
 ) {
     let mut listing = [0u16; MOST_FACES];
-    let faces = least(sides.len(), MOST_FACES);
+    let faces = sides.len().min(MOST_FACES);
     turn_faces(
         rt,
         sharp,
@@ -104,14 +98,13 @@ fn turn_faces(
     sharpness: &mut [u8],
     listing: &mut [u16],
 ) {
-    let t = turning::turn(coordinates, sides, corners, sharpness, listing);
-    let answer = t.answer;
-    if let Answer::Refused(number, place) = answer {
-        complain_refusal(rt, number, place);
-        return;
-    }
-    if say_turned(rt, sharp, coordinates, sides, corners, sharpness) {
-        complain_listing(rt, listing, t.turned);
+    match turning::turn(coordinates, sides, corners, sharpness, listing) {
+        Ok(turned) => {
+            if say_turned(rt, sharp, coordinates, sides, corners, sharpness) {
+                complain_listing(rt, listing, turned);
+            }
+        }
+        Err(Refusal { number, place }) => complain_refusal(rt, number, place),
     }
 }
 
@@ -125,27 +118,32 @@ fn say_turned(
     sharpness: &[u8],
 ) -> bool {
     let mut file = [0u8; BUFFER];
-    let end = dms_output::put_file(&mut file, sharp, coordinates, sides, corners, sharpness);
+    let end = dms_output::put_file(
+        &mut file,
+        sharp,
+        MeshLists {
+            coordinates,
+            sides,
+            corners,
+            sharpness,
+        },
+    );
     say_up_to(rt, &file, end)
 }
 
 // Writes the beginning of the listing to standard error, one number a line.
 fn complain_listing(rt: HostRuntime, listing: &[u16], turned: usize) {
     let mut lines = [0u8; LINES_ROOM];
-    let count = least(turned, listing.len());
-    let end = put_listing(&mut lines, listing, count);
+    let count = turned.min(listing.len());
+    let end = put_listing(&mut lines, &listing[..count]);
     complain_up_to(rt, &lines, end);
 }
 
-// The lines of so many entries.
-fn put_listing(lines: &mut [u8], listing: &[u16], count: usize) -> usize
-    requires { count ≤ length listing.now }
-{
+// The lines of the entries.
+fn put_listing(lines: &mut [u8], listing: &[u16]) -> usize {
     let mut at = 0;
-    let mut i = 0;
-    while i < count {
-        at = put_ended(lines, at, wide(listing[i]) as u64, b'\n');
-        i += 1;
+    for face in listing {
+        at = put_ended(lines, at, u64::from(*face), b'\n');
     }
     at
 }

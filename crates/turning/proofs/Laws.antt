@@ -2,16 +2,17 @@
 use mathlib.Core.Path.{◌≡◌, refl, ap, ◌∙◌, sym}
 use mathlib.Core.Bool.{not}
 use mathlib.Core.List.{List}
+use Rattle.std.specs.Prelude.{Ok, Err}
 use Prim.Native.Nat.{ℕ, ◌*◌, ◌<◌, ◌≤◌}
 use native.Mathlib.Omega.{arith}
 use lib.ListN.{length}
 use borrow.Author.Tests.{eq-eqb, ne_eqb}
 use Rattle.paper.specs.Mesh.{most_corners, Mesh, mesh_of, vertex_count, face_count, corner_count}
-use Rattle.paper.specs.Faults.{sound, fault, ◌or_else◌, list_faults, stated}
+use Rattle.paper.specs.Faults.{sound, fault, ◌or_else◌, list_faults, stated, Answer, done}
+use Rattle.paper.specs.declared.Refusal.{Refusal}
 use Rattle.paper.specs.File.{begins}
 use Rattle.paper.specs.Turning.{turned_pairs, faces_of, turns_of, fault36, turn_faults, turn_verdict, TurnedTo}
-use Rattle.paper.specs.declared.Answer.{Answer}
-use Rattle.mesh.proofs.Verdicts.{sound_left, sound_right, single_sound, lowest_sound, or_else_fault, or_else_sound, single_hit, single_miss, unsound}
+use Rattle.mesh.proofs.Verdicts.{sound_left, sound_right, single_sound, lowest_sound, stop, or_else_fault, or_else_sound, single_hit, single_miss, unsound}
 use Rattle.mesh.proofs.Accepted.{few_vertices, few_faces, few_corners, named_of}
 use Rattle.walk.specs.Table.{row_length}
 use Rattle.checks.specs.columns.Filled.{FacesFilled}
@@ -48,21 +49,20 @@ nexted_of z l f = let s = z.listed.sums in let g = z.few_corners in record { lon
 
 -- 4 to 9 stop the search, or 34 and 35 decide
 module _ (M : Mesh) {a : Answer} (v : stated a ≡ list_faults M) where
-  pub lists_refused : {k p : ℕ} (states : List ℕ) → a ≡ Answer.Refused k p → ChosenFor M (Answer.Refused k p) states
-  lists_refused {k} {p} states e =
-      record { answers = sym (or_else_fault k p (turn_faults M) (sym v ∙ ap stated e)); turns = λ q. unsound k p q }
+  pub lists_refused : (x : Refusal) (states : List ℕ) → a ≡ Err x → ChosenFor M (Err x) states
+  lists_refused x states e = record { answers = stop a v x e (turn_faults M); turns = λ q. unsound x.number x.place q }
 
-  pub lists_sound : a ≡ Answer.Done → list_faults M ≡ sound
+  pub lists_sound : a ≡ done → list_faults M ≡ sound
   lists_sound e = sym v ∙ ap stated e
 
-  pub lists_passed : {b : Answer} {states : List ℕ} → a ≡ Answer.Done → Chosen M.sides M.corners b states → ChosenFor M b states
+  pub lists_passed : {b : Answer} {states : List ℕ} → a ≡ done → Chosen M.sides M.corners b states → ChosenFor M b states
   unfolding turn_faults
   lists_passed e c = record { answers = c.answers ∙ sym (or_else_sound (turn_faults M) (lists_sound e)); turns = c.turns }
 
 -- the whole: refused, or done
 module _ (M : Mesh) (old : List ℕ) where
-  pub turned_refused : (k p : ℕ) → turn_verdict M (length old) ≡ fault k p → TurnedTo M old (record { answer = Answer.Refused k p; turned = 0 }) M old
-  turned_refused k p e = record { answers = sym e; counts = refl; holds = refl; listing_holds = refl }
+  pub turned_refused : (x : Refusal) → turn_verdict M (length old) ≡ fault x.number x.place → TurnedTo M old (Err x) M old
+  turned_refused x e = record { answers = sym e; counts = tt; holds = refl; listing_holds = refl }
 
   pub length_refused : (length old ≡ face_count M → ⊥) → turn_verdict M (length old) ≡ fault 36 (length old)
   unfolding turn_verdict fault36
@@ -75,13 +75,13 @@ module _ (M : Mesh) (old : List ℕ) where
     verdict_is =
         or_else_sound (list_faults M or_else turn_faults M) (single_miss 36 (length old) (ap not (eq-eqb (length old) (face_count M) q))) ∙ sym c.answers
 
-    module _ (d : a ≡ Answer.Done) where
+    module _ (d : a ≡ done) where
       pub passes : list_faults M ≡ sound
       passes = sound_left _ _ (sym c.answers ∙ ap stated d)
 
       pub turned_done : {count : ℕ} {corners sharpness out : List ℕ} → sharpness ≡ turned_pairs M.sides M.sharpness (turns_by states)
           → Written (turns_by states) M.sides M.corners old count corners out
-          → TurnedTo M old (record { answer = Answer.Done; turned = count }) (mesh_of M.coordinates M.sides corners sharpness) out
+          → TurnedTo M old (Ok count) (mesh_of M.coordinates M.sides corners sharpness) out
       turned_done {sharpness = sharpness} s w =
           let same : (f : ℕ) → f < face_count M → turns_by states f ≡ turns_of M f = c.turns (ap stated d) in
           let sums = (listed_of M passes).sums in

@@ -8,7 +8,6 @@ use lib.ListN.{length, get_or, take, drop, get_or-append}
 use lib.Seq.{take-append_seam}
 use borrow.Author.Tests.{eq-eqb, ne_eqb}
 use Rattle.paper.specs.Mesh.{Mesh, face_count}
-use Rattle.paper.specs.Faults.{Verdict, stated, kept}
 use Rattle.paper.specs.File.{begins}
 use Rattle.paper.specs.Nesting.{listed}
 use Rattle.paper.specs.Turning.{faces_of, turns_of, turned_faces}
@@ -83,10 +82,9 @@ turned_rising : (M : Mesh) → Rising (turns_of M) 0 (face_count M) (turned_face
 turned_rising M = rising (turns_of M) 0 (face_count M)
 
 pub listing_rises : ListingRises
-listing_rises M lists old out r T d =
-    let v = ap stated d in
-    let many : r.turned ≡ length (turned_faces M) = T.counts ∙ ap (λ (v : Verdict). kept v (length (turned_faces M)) 0) v in
-    let out-is : out ≡ begins (turned_faces M) old = T.listing_holds ∙ ap (λ (v : Verdict). kept v (begins (turned_faces M) old) old) v in
+listing_rises M lists old out n T =
+    let many : n ≡ length (turned_faces M) = T.counts in
+    let out-is : out ≡ begins (turned_faces M) old = T.listing_holds in
     let rest = drop (length (turned_faces M)) old in
     let at : (i : ℕ) → i < length (turned_faces M) → get_or out i 0 ≡ get_or (turned_faces M) i 0 =
     λ i l. ap (λ (x : List ℕ). get_or x i 0) out-is ∙ get_or-append (turned_faces M) rest 0 i l in (

@@ -2,18 +2,17 @@
 use mathlib.Core.Path.{◌≡◌, refl, ap, ◌∙◌, sym, subst}
 use mathlib.Core.Bool.{Bool, true, false, not}
 use mathlib.Core.List.{List}
+use Rattle.std.specs.Prelude.{Ok, Err}
 use Prim.Native.Nat.{ℕ, ◌*◌, ◌<◌}
 use native.Mathlib.Omega.{arith}
 use lib.ListN.{length}
 use borrow.Author.Tests.{not-true, eq-eqb}
 use Rattle.paper.specs.Mesh.{Mesh, face_count, corner_count}
-use Rattle.paper.specs.Faults.{Verdict, sound, fault10, list_faults, stated, kept}
+use Rattle.paper.specs.Faults.{sound, fault10, list_faults, stated, Told}
 use Rattle.paper.specs.Turning.{turned_corners, turned_mesh, edge_faults, faulty, serves, keeps_lowest, turns_of, turned_faces}
 use Rattle.paper.specs.Turning.{fault36, turn_faults, turn_verdict, TurnedTo}
 use Rattle.paper.specs.File.{begins}
 use Rattle.paper.specs.Claims.{TurnedPasses, TurnsDecide, OneChoice, TurnedTwice, TurnedBack, NothingTurned, NoneFarther}
-use Rattle.paper.specs.declared.Answer.{Answer}
-use Rattle.paper.specs.declared.Turned.{Turned}
 use Rattle.mesh.proofs.Ranges.{or_none, none_left, none_right}
 use Rattle.mesh.proofs.Scans.{some_false, none}
 use Rattle.mesh.proofs.Verdicts.{sound_left, sound_right, single_sound, single_miss, lowest_sound, lowest_none, or_else_sound, unsound}
@@ -49,48 +48,47 @@ module _ (M : Mesh) (e : list_faults M ≡ sound) (t : ℕ → Bool) where
       ∙ lowest_none 11 _ _ (λ c l. none_right (fault10 M.sides (turned_corners M.sides M.corners t) c) _ (each c (omega (arith, same_length))))
 
 -- ---- a call that is done
-stated_done : (a : Answer) → stated a ≡ sound → a ≡ Answer.Done
-stated_done Answer.Done e = refl
-stated_done (Answer.Refused k p) e = unsound k p e
+stated_done : (a : Told ℕ) → stated a ≡ sound → (n : ℕ) × (a ≡ Ok n)
+stated_done (Ok n) e = (n, refl)
+stated_done (Err x) e = unsound x.number x.place e
 
-module _ {M lists : Mesh} {old out : List ℕ} {r : Turned} (T : TurnedTo M old r lists out) where
-  module _ (d : r.answer ≡ Answer.Done) where
-    all_sound : turn_verdict M (length old) ≡ sound
-    all_sound = sym T.answers ∙ ap stated d
+module _ {M lists : Mesh} {old out : List ℕ} {n : ℕ} (T : TurnedTo M old (Ok n) lists out) where
+  all_sound : turn_verdict M (length old) ≡ sound
+  all_sound = sym T.answers
 
-    lists_sound : list_faults M ≡ sound
-    lists_sound = unfold turn_verdict in sound_left _ _ (sound_right _ _ all_sound)
+  lists_sound : list_faults M ≡ sound
+  lists_sound = unfold turn_verdict in sound_left _ _ (sound_right _ _ all_sound)
 
-    turns_sound : turn_faults M ≡ sound
-    turns_sound = unfold turn_verdict in sound_right (list_faults M) _ (sound_right _ _ all_sound)
+  turns_sound : turn_faults M ≡ sound
+  turns_sound = unfold turn_verdict in sound_right (list_faults M) _ (sound_right _ _ all_sound)
 
-    lists_are : lists ≡ turned_mesh M (turns_of M)
-    lists_are = T.holds ∙ ap (λ (v : Verdict). kept v (turned_mesh M (turns_of M)) M) (ap stated d)
+-- and one whose lists pass 36 and 4 to 9 is done where 34 and 35 find nothing
+module _ {M lists : Mesh} {old out : List ℕ} {r : Told ℕ} (T : TurnedTo M old r lists out) (n : length old ≡ face_count M) (e : list_faults M ≡ sound) where
+  rest_is : turn_verdict M (length old) ≡ turn_faults M
+  unfolding turn_verdict fault36
+  rest_is = or_else_sound _ (single_miss 36 (length old) (ap not (eq-eqb (length old) (face_count M) n))) ∙ or_else_sound (turn_faults M) e
 
-  -- and one whose lists pass 36 and 4 to 9 is done where 34 and 35 find nothing
-  module _ (n : length old ≡ face_count M) (e : list_faults M ≡ sound) where
-    rest_is : turn_verdict M (length old) ≡ turn_faults M
-    unfolding turn_verdict fault36
-    rest_is = or_else_sound _ (single_miss 36 (length old) (ap not (eq-eqb (length old) (face_count M) n))) ∙ or_else_sound (turn_faults M) e
-
-    done_of : turn_faults M ≡ sound → r.answer ≡ Answer.Done
-    done_of s = stated_done r.answer (T.answers ∙ rest_is ∙ s)
+  done_of : turn_faults M ≡ sound → (n : ℕ) × (r ≡ Ok n)
+  done_of s = stated_done r (T.answers ∙ rest_is ∙ s)
 
 pub turned_passes : TurnedPasses
-turned_passes M lists old out r T d =
-    let e = lists_sound T d in
-    rw (lists_are T d) (passes_of M e (turns_of M) ((complete M e).made_serves (turns_sound T d)))
+turned_passes M lists old out n T =
+    let e = lists_sound T in
+    rw T.holds (passes_of M e (turns_of M) ((complete M e).made_serves (turns_sound T)))
 
 pub turns_decide : TurnsDecide
 turns_decide M lists old out r T n e = (
-  (λ refused t s. refused (done_of T n e ((complete M e).unrefused t (serves_of M e t s)))),
-  (λ never d. never (turns_of M) (passes_of M e (turns_of M) ((complete M e).made_serves (turns_sound T d)))),
+  (λ refused t s. refused (ap stated (done_of T n e ((complete M e).unrefused t (serves_of M e t s))).1)),
+  (λ never z.
+      let d = stated_done r z in
+      let D : TurnedTo M old (Ok d.0) lists out = subst (λ (x : Told ℕ). TurnedTo M old x lists out) d.1 T in
+      never (turns_of M) (passes_of M e (turns_of M) ((complete M e).made_serves (turns_sound D)))),
 )
 
 pub one_choice : OneChoice
-one_choice M lists old out r T d =
-    let e = lists_sound T d in
-    ((complete M e).made_keeps (turns_sound T d), (λ t s q f h. (complete M e).only t (serves_of M e t s) q f h))
+one_choice M lists old out n T =
+    let e = lists_sound T in
+    ((complete M e).made_keeps (turns_sound T), (λ t s q f h. (complete M e).only t (serves_of M e t s) q f h))
 
 pub turned_twice : TurnedTwice
 turned_twice M e t =
@@ -99,8 +97,8 @@ turned_twice M e t =
     rw (corners_twice M.sides M.corners M.sharpness sums long t, pairs_twice M.sides M.corners M.sharpness sums long t)
 
 pub turned_back : TurnedBack
-turned_back M lists old out r T d =
-    rw (lists_are T d) (turned_twice M (lists_sound T d) (turns_of M))
+turned_back M lists old out n T =
+    rw T.holds (turned_twice M (lists_sound T) (turns_of M))
 
 -- ---- a model that passes needs no turn
 module _ (M : Mesh) (e : list_faults M ≡ sound) where
@@ -136,12 +134,9 @@ module _ (M : Mesh) (e : list_faults M ≡ sound) where
 pub nothing_turned : NothingTurned
 nothing_turned M lists old out r T n e s =
     let d = done_of T n e ((complete M e).unrefused no_face (none_serves M e s)) in
-    let v = ap stated d in (
-      d,
-      T.counts ∙ ap (λ (v : Verdict). kept v (length (turned_faces M)) 0) v ∙ ap length (faces_empty M e s),
-      T.holds ∙ ap (λ (v : Verdict). kept v (turned_mesh M (turns_of M)) M) v ∙ mesh_same M e s,
-      T.listing_holds ∙ ap (λ (v : Verdict). kept v (begins (turned_faces M) old) old) v ∙ ap (λ (l : List ℕ). begins l old) (faces_empty M e s),
-    )
+    let D : TurnedTo M old (Ok d.0) lists out = subst (λ (x : Told ℕ). TurnedTo M old x lists out) d.1 T in
+    let none : d.0 ≡ 0 = D.counts ∙ ap length (faces_empty M e s) in
+    (d.1 ∙ ap (λ (x : ℕ). Ok x) none, D.holds ∙ mesh_same M e s, D.listing_holds ∙ ap (λ (l : List ℕ). begins l old) (faces_empty M e s))
 
 pub none_farther : NoneFarther
 none_farther M k f g h e = none_later M.sides M.corners f k g h e

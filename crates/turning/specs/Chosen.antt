@@ -1,9 +1,8 @@
 -- What the call knows when its checks are over.
 use Rattle.std.specs.Prelude.{◌≡◌, List, ℕ, ◌<◌}
 use Rattle.paper.specs.Mesh.{Mesh, face_count}
-use Rattle.paper.specs.Faults.{sound, ◌or_else◌, list_faults, stated}
+use Rattle.paper.specs.Faults.{sound, ◌or_else◌, list_faults, stated, Answer}
 use Rattle.paper.specs.Turning.{turns_of, turn_faults}
-use Rattle.paper.specs.declared.Answer.{Answer}
 use Rattle.reversing.specs.States.{turns_by}
 
 -- the checks 4 to 9 with 27 and 28, 34 and 35, and the states of the faces, which tell the choice

@@ -5,7 +5,8 @@ ghost use Rattle.walk.specs.Table.{Blank};
 ghost use Rattle.partners.specs.Lists.{ListsPass, Nexted};
 ghost use Rattle.turning.specs.choosing.Choice.{Chosen};
 
-use paper::{Answer, MOST_CORNERS, MOST_FACES};
+use crate::tables::Tables;
+use paper::{MOST_CORNERS, MOST_FACES, Refusal};
 use partners::find_partners;
 
 // Checks 34 and 35, and the state of every face.
@@ -15,21 +16,23 @@ pub(crate) fn find_turns(
     corners: &[u16],
     table: &[u16],
     states: &mut [u8],
-) -> Answer
+) -> Result<(), Refusal>
     requires lists { ListsPass vertices sides.now corners.now × Nexted sides.now corners.now table.now }
     requires room { (length sides.now ≤ length states.old) × Blank states.old }
     ensures { Chosen sides.now corners.now result states.new }
 {
     let mut partners = [0u16; MOST_CORNERS];
-    let a = find_partners(vertices, sides, corners, table, &mut partners);
-    if let Answer::Refused(k, p) = a {
-        return Answer::Refused(k, p);
-    }
+    find_partners(vertices, sides, corners, table, &mut partners)?;
     let mut faces = [0u16; MOST_CORNERS];
     let mut starts = [0u16; MOST_FACES];
     crate::starts::fill_starts(sides, &mut faces, &mut starts);
     let mut queue = [0u16; MOST_FACES];
-    crate::spreading::spread(
-        sides, corners, &partners, &faces, &starts, states, &mut queue,
-    )
+    let tables = Tables {
+        sides,
+        corners,
+        partners: &partners,
+        faces: &faces,
+        starts: &starts,
+    };
+    crate::spreading::spread(&tables, states, &mut queue)
 }

@@ -1,50 +1,42 @@
 // One face of a model that is turned: the faces across its edges get their states, or one of them is asked to be both kept and turned.
 ghost use Rattle.std.specs.Prelude.{◌≡◌, ◌<◌, length};
-ghost use Rattle.turning.specs.visiting.Visit.{Seen, Spreadable, Queued, Visited};
+ghost use Rattle.turning.specs.visiting.Visit.{Seen, Queued, Visited};
 
+use crate::tables::Tables;
 use reversing::states::{UNSEEN, across};
 
-// How far the queue reaches, or that a face is asked to be both kept and turned.
+// A face is asked to be both kept and turned.
 #[derive(Clone, Copy)]
-pub enum Reach {
-    To(usize),
-    Clash,
-}
+pub struct Clash;
 
-// One face: the faces across its edges get their states.
+// One face: the faces across its edges get their states. Answers how far the queue reaches.
 pub(crate) fn visit(
-    sides: &[u8],
-    corners: &[u16],
-    partners: &[u16],
-    faces: &[u16],
-    starts: &[u16],
+    tables: &Tables,
     f: usize,
     states: &mut [u8],
     queue: &mut [u16],
     tail: usize,
-) -> Reach
-    requires tables { Spreadable sides.now corners.now partners.now faces.now starts.now }
-    requires face { (f < length sides.now) × Seen states.old f }
-    requires queued { Queued (length sides.now) states.old queue.old tail }
-    ensures { Visited sides.now corners.now f states.old queue.old tail result states.new queue.new }
+) -> Result<usize, Clash>
+    requires face { (f < length tables.now.sides.now) × Seen states.old f }
+    requires queued { Queued (length tables.now.sides.now) states.old queue.old tail }
+    ensures { Visited tables.now.sides.now tables.now.corners.now f states.old queue.old tail result states.new queue.new }
 {
     let state = states[f];
-    let mut c = starts[f] as usize;
-    let end = c + sides[f] as usize;
+    let start = tables.starts[f] as usize;
+    let end = start + tables.sides[f] as usize;
     let mut next = tail;
-    while c < end {
-        let d = (partners[c] - 1) as usize;
-        let g = faces[d] as usize;
-        let wanted = across(state, corners[c] == corners[d]);
+    for c in start..end {
+        let d = (tables.partners[c] - 1) as usize;
+        let g = tables.faces[d] as usize;
+        let wanted = across(state, tables.corners[c] == tables.corners[d]);
         let found = states[g];
         if found == UNSEEN {
             states[g] = wanted;
             queue[next] = g as u16;
             next += 1;
         } else if found != wanted {
-            return Reach::Clash;
+            return Err(Clash);
         }
-        c += 1;
     }
-    Reach::To(next)
+    Ok(next)
 }

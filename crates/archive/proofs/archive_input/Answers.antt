@@ -6,4 +6,4 @@ use Rattle.archive.proofs.archive_input.Goals as goal
 
 pub archive_numbers-requires : goal.archive_numbers-requires
 archive_numbers-requires c =
-    simp length-take (omega (arith, c.least-n.ensures, c.read_up_to-got.ensures, div-add-mod c.read_up_to-got.result.count 4))
+    simp length-take (omega (arith, c.min-n.ensures, c.in-Ok-2.ensures.ok, div-add-mod c.in-Ok.held 4))

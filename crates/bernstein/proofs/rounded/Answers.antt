@@ -16,19 +16,19 @@ use Rattle.bernstein.proofs.rounded.Goals as goal
 small : (s : ℤ) (n : ℕ) → n ≤ 16 → nat_abs s ≤ 2 ^ 27 * n ^ 4 → nat_abs s ≤ 2 ^ 43
 small s n l h = le_trans h (mul-le-mul_left (2 ^ 27) (pow-le-pow_left l 4))
 
-module _ (c : goal.After-quotient-q) where
+module _ (c : goal.After-quotient) where
   abbrev d : ℕ
   d = c.args.n ^ 4
 
-  is : c.quotient-q.result ≡ round c.args.s (pos d)
-  is = c.quotient-q.ensures ∙ ap (λ (z : ℤ). round z (pos d)) (to_z-of_z c.ranges.s)
+  is : c.quotient.result ≡ round c.args.s (pos d)
+  is = c.quotient.ensures ∙ ap (λ (z : ℤ). round z (pos d)) (to_z-of_z c.ranges.s)
 
-  size : nat_abs c.quotient-q.result ≤ 2 ^ 27
+  size : nat_abs c.quotient.result ≤ 2 ^ 27
   size =
       let one = one-le-pow 4 c.args.n c.requires.0 in
       rw is (round_size c.args.s d (2 ^ 27) (simp diff (omega (arith, one))) c.requires.2)
 
-  wide : bits c.quotient-q.result ≡ c.quotient-q.result
+  wide : bits c.quotient.result ≡ c.quotient.result
   wide = to_z-of_z (size_fits _ (omega (arith, size)))
 
 pub overflow_cast-result : goal.overflow_cast-result
@@ -37,5 +37,5 @@ overflow_cast-result c = rw (wide c) (abs_fits w32 _ (2 ^ 27) (size c) (lit< tt)
 pub returns : goal.returns
 returns c = rw (wide c) (to_z-of_z (abs_fits w32 _ (2 ^ 27) (size c) (lit< tt)) ∙ is c)
 
-pub quotient-q-requires : goal.quotient-q-requires
-quotient-q-requires c = (c.requires.0, c.requires.1, rw (to_z-of_z c.ranges.s) (small c.args.s c.args.n c.requires.1 c.requires.2))
+pub quotient-requires : goal.quotient-requires
+quotient-requires c = (c.requires.0, c.requires.1, rw (to_z-of_z c.ranges.s) (small c.args.s c.args.n c.requires.1 c.requires.2))

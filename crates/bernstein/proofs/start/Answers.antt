@@ -9,8 +9,8 @@ use Rattle.bernstein.proofs.start.Goals as goal
 
 pub states-requires : goal.states-requires
 states-requires c =
-    subst (λ (r : Matrix5). AllSized (2 ^ 54) r) (sym c.polynomial-c.ensures)
+    subst (λ (r : Matrix5). AllSized (2 ^ 54) r) (sym c.polynomial.ensures)
     (tapered_sized _ (polynomial_tapers c.args.p c.args.n c.requires.0 c.requires.1))
 
 pub returns : goal.returns
-returns c = c.states.ensures ∙ ap (λ (r : Matrix5). states_of r 0) c.polynomial-c.ensures
+returns c = c.states.ensures ∙ ap (λ (r : Matrix5). states_of r 0) c.polynomial.ensures

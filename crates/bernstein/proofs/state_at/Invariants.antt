@@ -1,12 +1,8 @@
 -- `bernstein::state_at` meets its contract: after x turns the state is that at x.
 use mathlib.Core.Path.{◌≡◌}
-use Prim.Native.Nat.{◌-◌, ◌≤◌}
 use Rattle.bernstein.specs.declared.Vector5.{Vector5}
 use Rattle.bernstein.specs.Sums.{state_of}
 use Rattle.bernstein.proofs.state_at.Given as goal
 
 abbrev pub invariant-loop-x : goal.invariant-loop-x
-invariant-loop-x l = (l.x ≤ l.j) × ((e : Vector5) → l.initial.g ≡ state_of e 0 → l.g ≡ state_of e l.x)
-
-abbrev pub decreases-loop-x : goal.decreases-loop-x
-decreases-loop-x l = l.j - l.x
+invariant-loop-x l = (e : Vector5) → l.initial.g ≡ state_of e 0 → l.g ≡ state_of e l.x

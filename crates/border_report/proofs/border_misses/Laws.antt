@@ -10,6 +10,8 @@ use lib.Dec.{ltb, lit<}
 use borrow.Author.Tests.{ltb-true, ltb-false}
 use lib.ListN.{length, get_or}
 use lib.IntN.{ℤ, pos, nat_abs}
+use Rattle.paper.specs.Scan.{values_from}
+use Rattle.pages.proofs.Lists.{value_at_lem}
 use Rattle.paper.specs.Corners.{sum_of, first_of, sides_of, previous}
 use Rattle.paper.specs.Numbers.{rounded}
 use Rattle.paper.specs.Refined.{RefinedMesh}
@@ -26,6 +28,10 @@ use Rattle.net.specs.Drawn.{drawn, Drawn}
 use Rattle.building.specs.writing.Written.{Faced, NetsWritten}
 use Rattle.building.proofs.writing.Laws.{run_of}
 use Rattle.border_report.specs.border_misses.Held.{point_in, NetHeld, NetHeldAll, WholeFace, four_of, net_point, net_miss, corner_miss}
+
+-- ---- the larger misses, by the place of their condition
+pub larger_at : (f : ℕ → ℕ) (r : List ℕ) → r ≡ values_from f 0 conditions → (j : ℕ) → j < conditions → get_or r j 0 ≡ f j
+larger_at f r e j few = rw e (value_at_lem f conditions j few)
 
 -- ---- the numbers of corner j of those that are written
 pub held_of : (n : ℕ) (table : List ℕ) (points : List ℤ) → Drawn n table points → (first count : ℕ) → first + count ≤ n → (out : List ℤ)

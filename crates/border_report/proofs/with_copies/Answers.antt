@@ -3,22 +3,10 @@ use mathlib.Core.Path.{ap, ◌∙◌}
 use Rattle.paper.specs.Mesh.{Mesh}
 use Rattle.paper.specs.Faults.{verdict}
 use Rattle.paper.specs.Report.{added}
-use Rattle.dms_lists.proofs.Reading.{mesh_read, coordinates_long, sides_long, corners_long, sharpness_long}
+use Rattle.dms_lists.proofs.Reading.{mesh_read}
 use Rattle.border_report.proofs.with_copies.Goals as goal
 
 pub returns : goal.returns
 returns c =
     let read = mesh_read _ _ _ c.read_lists.ensures _ _ _ c.vertex_count-numbers.ensures.0 c.face_count-faces.ensures.0 c.corner_count-count.ensures.0 in
     c.with_mesh.ensures ∙ ap (λ (M : Mesh). added c.args.page M (verdict M)) read
-
-pub slice_bounds-with_mesh-end-2 : goal.slice_bounds-with_mesh-end-2
-slice_bounds-with_mesh-end-2 c = coordinates_long _ _ _ c.read_lists.ensures _ c.vertex_count-numbers.ensures.0
-
-pub slice_bounds-with_mesh-end-4 : goal.slice_bounds-with_mesh-end-4
-slice_bounds-with_mesh-end-4 c = sides_long _ _ _ c.read_lists.ensures _ c.face_count-faces.ensures.0
-
-pub slice_bounds-with_mesh-end-6 : goal.slice_bounds-with_mesh-end-6
-slice_bounds-with_mesh-end-6 c = corners_long _ _ _ c.read_lists.ensures _ c.corner_count-count.ensures.0
-
-pub slice_bounds-with_mesh-end-8 : goal.slice_bounds-with_mesh-end-8
-slice_bounds-with_mesh-end-8 c = sharpness_long _ _ _ c.read_lists.ensures _ c.corner_count-count.ensures.0

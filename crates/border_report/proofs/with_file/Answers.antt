@@ -7,18 +7,18 @@ use Rattle.border_report.proofs.Laws.{refused_added}
 use borrow.Author.Rules.{rules}
 use Rattle.border_report.proofs.with_file.Goals as goal
 
-pub returns-in-Refused : goal.returns-in-Refused
+pub returns-in-Err : goal.returns-in-Err
 unfolding file_verdict
-returns-in-Refused c =
+returns-in-Err c =
     let M = file_mesh c.args.file.now in
-    refused_added c.args.page M _ c.refuse.result _ _ c.refuse.ensures (stop _ c.check_header-header.ensures _ _ c.in-Refused.is (verdict M))
+    refused_added c.args.page M _ c.refuse.result _ _ c.refuse.ensures (stop _ c.check_header.ensures _ c.in-Err.is (verdict M))
 
 pub with_lists-requires : goal.with_lists-requires
 with_lists-requires c = (
-  header_within c.args.file.now c.args.counted (passed _ c.check_header-header.ensures c.in_default.is),
+  header_within c.args.file.now c.args.counted (passed _ c.check_header.ensures _ c.in-Ok.is),
   c.requires,
 )
 
-pub returns : goal.returns
+pub returns-in-Ok : goal.returns-in-Ok
 unfolding file_verdict
-returns c = search (rules, or_else_sound, passed)
+returns-in-Ok c = search (rules, or_else_sound, passed)

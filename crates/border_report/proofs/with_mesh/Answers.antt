@@ -13,11 +13,11 @@ use Rattle.border_report.proofs.with_mesh.Goals as goal
 
 pub over-requires : goal.over-requires
 over-requires c =
-    let n = length c.args.corners.now in
+    let n = length c.args.lists.corners.now in
     let fits : n ≤ most_corners → n ≤ small_mesh = λ h. omega (arith, rows_suffice _ _ c.table_rows.ensures h) in
     record { page = c.requires; table = rows_for n small_mesh fits; points = (point_room n small_mesh fits, small_zeros (point_row * small_mesh)) }
 
 pub over-requires-2 : goal.over-requires-2
 over-requires-2 c =
-    let n = length c.args.corners.now in
+    let n = length c.args.lists.corners.now in
     record { page = c.requires; table = rows_for n most_corners (λ h. h); points = (point_room n most_corners (λ h. h), small_zeros (point_row * most_corners)) }

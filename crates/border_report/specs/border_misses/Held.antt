@@ -11,8 +11,6 @@ use Rattle.walk.specs.Table.{to_next, entry}
 use Rattle.net_rows.specs.declared.sides.NetSides.{NetSides}
 use Rattle.net_rows.specs.sides.Values.{FourSides}
 use Rattle.net.specs.stencil.Taken.{Run}
-use Rattle.pages.specs.declared.four.Misses.{Misses}
-use Rattle.pages.specs.four.Four.{in_misses}
 
 -- point k on an axis, of the numbers from `at` on
 abbrev pub point_in : List ℤ → ℕ → ℕ → ℕ → ℤ
@@ -64,7 +62,7 @@ unfoldable pub corner_miss : (ℕ → RefinedMesh rounded) → ℕ → ℕ → �
 corner_miss K j c = largest_below 3 (λ axis. max (net_miss (K axis) j c side0) (net_miss (K axis) j c side1))
 
 -- the misses of sides 0 and 1 on an axis, at whichever corner has these sides and these numbers
-abbrev pub AxisMisses : NetSides → ℕ → List ℤ → ℕ → List ℤ → ℕ → Misses → Type 0
+abbrev pub AxisMisses : NetSides → ℕ → List ℤ → ℕ → List ℤ → ℕ → List ℕ → Type 0
 AxisMisses s axis face here linked next r =
     (K : RefinedMesh rounded) (c : ℕ) → FourSides K c s → NetHeld K c axis face here → NetHeld K (K.corners.link c) axis linked 0
-    → NetHeld K (K.corners.next c) axis face next → (j : ℕ) → j < conditions → in_misses r j ≡ max (net_miss K j c side0) (net_miss K j c side1)
+    → NetHeld K (K.corners.next c) axis face next → (j : ℕ) → j < conditions → get_or r j 0 ≡ max (net_miss K j c side0) (net_miss K j c side1)

@@ -1,9 +1,10 @@
 -- `building::build_over` meets its contract: the checks of the mesh, of its links and of the range refuse, or what is written over the refined points of
 -- the range is what the mesh has.
-use mathlib.Core.Path.{◌≡◌, refl, ap, ◌∙◌, sym}
+use mathlib.Core.Path.{◌≡◌, refl}
 use lib.ListN.{length}
-use Rattle.paper.specs.Mesh.{Mesh, mesh_of}
-use Rattle.paper.specs.Faults.{sound, verdict, Accepted, stated}
+use Rattle.std.proofs.lemmas.Result.{err_from_is_err_and}
+use Rattle.paper.specs.Mesh.{Mesh, of_lists}
+use Rattle.paper.specs.Faults.{sound, verdict, Accepted}
 use Rattle.paper.specs.Refined.{corners_of}
 use Rattle.mesh.proofs.Verdicts.{passed}
 use Rattle.walk.specs.Table.{Tabled}
@@ -12,67 +13,65 @@ use Rattle.checks.proofs.requests.Laws.{Granted, granted}
 use Rattle.building.proofs.writing.Laws.{drawn_written}
 use Rattle.building.proofs.Laws.{few, mesh_refused, links_refused, range_refused, built}
 use native.Mathlib.Omega.{arith}
-use borrow.Author.Rules.{rules}
 use Rattle.building.proofs.build_over.Goals as goal
-use Rattle.building.proofs.build_over.Goals.{In_default, In_default-a15, In_default-a17, Start}
+use Rattle.building.proofs.build_over.Goals.{In_ok-check_within, In_ok-check_links, In_ok-check_asked, Start}
 
 abbrev mesh : Start → Mesh
-mesh s = mesh_of s.args.coordinates.now s.args.sides.now s.args.corners.now s.args.sharpness.now
+mesh s = of_lists s.args.lists
 
 -- after the checks of the mesh
-module _ (t : In_default) where
+module _ (t : In_ok-check_within) where
   abbrev start : Start
   start = search
 
   accepts : Accepted (mesh start)
-  accepts = passed {v = verdict (mesh start)} t.check_within-a.result t.check_within-a.ensures.answers t.in_default.is
+  accepts = passed {v = verdict (mesh start)} t.check_within.result t.check_within.ensures.answers _ t.in_ok-check_within.was
 
-  tabled : Tabled (corners_of (mesh start)) t.check_within-a.new.table
-  tabled = t.check_within-a.ensures.tabled accepts
+  tabled : Tabled (corners_of (mesh start)) t.check_within.new.table
+  tabled = t.check_within.ensures.tabled accepts
 
 -- after those of the links
-links_sound : (t : In_default-a15) → let s : Start = search in Tabled (corners_of (mesh s)) t.check_within-a.new.table → links_faults (mesh s) s.args.links.now ≡ sound
-links_sound t d = let s : Start = search in passed t.check_links-a15.result (t.check_links-a15.ensures (mesh s) refl d.links) t.in_default-a15.is
+links_sound : (t : In_ok-check_links) → let s : Start = search in Tabled (corners_of (mesh s)) t.check_within.new.table → links_faults (mesh s) s.args.links.now ≡ sound
+links_sound t d = let s : Start = search in passed t.check_links.result (t.check_links.ensures (mesh s) refl d.links) _ t.in_ok-check_links.was
 
 -- after those of the range
-range_sound : (t : In_default-a17) → let s : Start = search in range_faults (mesh s) s.args.range.first s.args.range.count (length s.args.out.now) ≡ sound
-range_sound t = let s : Start = search in passed t.check_asked-a17.result (t.check_asked-a17.ensures (mesh s) refl) t.in_default-a17.is
+range_sound : (t : In_ok-check_asked) → let s : Start = search in range_faults (mesh s) s.args.range.first s.args.range.count (length s.args.out.now) ≡ sound
+range_sound t = let s : Start = search in passed t.check_asked.result (t.check_asked.ensures (mesh s) refl) _ t.in_ok-check_asked.was
 
-grant : (t : In_default-a17) → let s : Start = search in Granted (mesh s) s.args.range.first s.args.range.count (length s.args.out.now)
+grant : (t : In_ok-check_asked) → let s : Start = search in Granted (mesh s) s.args.range.first s.args.range.count (length s.args.out.now)
 grant t = granted _ _ _ _ (range_sound t)
 
-pub returns-in-Refused : goal.returns-in-Refused
-returns-in-Refused c =
-    let k = c.in-Refused in
-    mesh_refused (mesh (goal.at.returns-in-Refused c).Start) _ _ _ _ k.k k.p (sym (ap stated k.is) ∙ c.check_within-a.ensures.answers)
+pub returns-in_err-check_within : goal.returns-in_err-check_within
+returns-in_err-check_within c =
+    let p = err_from_is_err_and c.from_residual.result c.from_residual.ensures.1 in
+    rw (p.1, p.2) (mesh_refused (mesh (goal.at.returns-in_err-check_within c).Start) _ _ _ _ _ _ c.in_err-check_within.ensures.answers)
 
-pub check_links-a15-requires : goal.check_links-a15-requires
-check_links-a15-requires c =
-    let t = (goal.at.check_links-a15-requires c).In_default in
+pub check_links-requires : goal.check_links-requires
+check_links-requires c =
+    let t = (goal.at.check_links-requires c).In_ok-check_within in
     (few (mesh (start t)) (accepts t), (tabled t).long)
 
-pub returns-in-Refused-a15 : goal.returns-in-Refused-a15
-returns-in-Refused-a15 c =
-    let t = (goal.at.returns-in-Refused-a15 c).In_default in
-    let k = c.in-Refused-a15 in
-    links_refused (mesh (start t)) _ _ _ _ (accepts t) k.k k.p
-    (sym (ap stated k.is) ∙ c.check_links-a15.ensures (mesh (start t)) refl (tabled t).links)
+pub returns-in_err-check_links : goal.returns-in_err-check_links
+returns-in_err-check_links c =
+    let t = (goal.at.returns-in_err-check_links c).In_ok-check_within in
+    let p = err_from_is_err_and c.from_residual-in_err-check_links.result c.from_residual-in_err-check_links.ensures.1 in
+    rw (p.1, p.2) (links_refused (mesh (start t)) _ _ _ _ (accepts t) _ _ (c.in_err-check_links.ensures (mesh (start t)) refl (tabled t).links))
 
-pub check_asked-a17-requires : goal.check_asked-a17-requires
-check_asked-a17-requires c = let t = (goal.at.check_asked-a17-requires c).In_default in few (mesh (start t)) (accepts t)
+pub check_asked-requires : goal.check_asked-requires
+check_asked-requires c = let t = (goal.at.check_asked-requires c).In_ok-check_within in few (mesh (start t)) (accepts t)
 
-pub returns-in-Refused-a17 : goal.returns-in-Refused-a17
-returns-in-Refused-a17 c =
-    let t = (goal.at.returns-in-Refused-a17 c).In_default in
-    let l = (goal.at.returns-in-Refused-a17 c).In_default-a15 in
-    let k = c.in-Refused-a17 in
-    range_refused (mesh (start t)) _ _ _ _ (accepts t) (links_sound l (tabled t)) k.k k.p
-    (sym (ap stated k.is) ∙ c.check_asked-a17.ensures (mesh (start t)) refl)
+pub returns-in_err-check_asked : goal.returns-in_err-check_asked
+returns-in_err-check_asked c =
+    let t = (goal.at.returns-in_err-check_asked c).In_ok-check_within in
+    let l = (goal.at.returns-in_err-check_asked c).In_ok-check_links in
+    let p = err_from_is_err_and c.from_residual-in_err-check_asked.result c.from_residual-in_err-check_asked.ensures.1 in
+    rw (p.1, p.2)
+    (range_refused (mesh (start t)) _ _ _ _ (accepts t) (links_sound l (tabled t)) _ _ (c.in_err-check_asked.ensures (mesh (start t)) refl))
 
 pub fill_range-requires : goal.fill_range-requires
 fill_range-requires c =
-    let t = (goal.at.fill_range-requires c).In_default in
-    let g = grant (goal.at.fill_range-requires c).In_default-a17 in record {
+    let t = (goal.at.fill_range-requires c).In_ok-check_within in
+    let g = grant (goal.at.fill_range-requires c).In_ok-check_asked in record {
       mesh = accepts t;
       table = tabled t;
       range = (g.some, g.within);
@@ -81,14 +80,14 @@ fill_range-requires c =
 
 pub write_corners-requires : goal.write_corners-requires
 write_corners-requires c =
-    let g = grant (goal.at.write_corners-requires c).In_default-a17 in
+    let g = grant (goal.at.write_corners-requires c).In_ok-check_asked in
     let d = c.fill_range.ensures in record { mesh = (d.draws, d.faced); range = (g.some, g.within, omega (arith, g.room)); rows = c.rows-rows.ensures }
 
 pub returns : goal.returns
 returns c =
-    let t = (goal.at.returns c).In_default in
-    let l = (goal.at.returns c).In_default-a15 in
-    let u = (goal.at.returns c).In_default-a17 in
+    let t = (goal.at.returns c).In_ok-check_within in
+    let l = (goal.at.returns c).In_ok-check_links in
+    let u = (goal.at.returns c).In_ok-check_asked in
     let g = grant u in
     built (mesh (start t)) _ _ _ _ (accepts t) (links_sound l (tabled t)) (range_sound u) _
     (drawn_written (mesh (start t)) _ _ _ _ c.fill_range.ensures _ _ (omega arith) (omega arith) _

@@ -7,28 +7,22 @@ use Rattle.mesh.proofs.Tables.{rows_suffice}
 use Rattle.checks.proofs.Laws.{rows_for}
 use Rattle.building.proofs.Laws.{point_room}
 use native.Mathlib.Omega.{arith}
-use borrow.Author.Rules.{rules}
 use Rattle.building.proofs.build_sized.Goals as goal
 use Rattle.building.proofs.build_sized.Goals.{After-table_rows-rows, Start}
 
 pub build_over-requires : goal.build_over-requires
 build_over-requires c =
-    let s = c in
-    let r = c in
-    let n = length s.args.corners.now in
-    let fits : n ≤ most_corners → n ≤ small_mesh = λ h. omega (arith, rows_suffice _ _ r.table_rows-rows.ensures h) in
+    let n = length c.args.lists.corners.now in
+    let fits : n ≤ most_corners → n ≤ small_mesh = λ h. omega (arith, rows_suffice _ _ c.table_rows-rows.ensures h) in
     record { table = rows_for n small_mesh fits; points = point_room n small_mesh fits }
 
 pub build_over-requires-then-rows-eq-LARGE_MESH : goal.build_over-requires-then-rows-eq-LARGE_MESH
 build_over-requires-then-rows-eq-LARGE_MESH c =
-    let s = c in
-    let r = c in
-    let n = length s.args.corners.now in
-    let fits : n ≤ most_corners → n ≤ large_mesh = λ h. omega (arith, rows_suffice _ _ r.table_rows-rows.ensures h) in
+    let n = length c.args.lists.corners.now in
+    let fits : n ≤ most_corners → n ≤ large_mesh = λ h. omega (arith, rows_suffice _ _ c.table_rows-rows.ensures h) in
     record { table = rows_for n large_mesh fits; points = point_room n large_mesh fits }
 
 pub build_over-requires-else-rows-eq-LARGE_MESH : goal.build_over-requires-else-rows-eq-LARGE_MESH
 build_over-requires-else-rows-eq-LARGE_MESH c =
-    let s = c in
-    let n = length s.args.corners.now in
+    let n = length c.args.lists.corners.now in
     record { table = rows_for n most_corners (λ h. h); points = point_room n most_corners (λ h. h) }

@@ -1,5 +1,5 @@
 -- The check over a lent table meets its contract: the table of vertices has a row for each, where these are not too many.
-use Rattle.paper.specs.Mesh.{Mesh, mesh_of, most_vertices}
+use Rattle.paper.specs.Mesh.{Mesh, most_vertices, of_lists}
 use Rattle.mesh.specs.Tables.{small_mesh}
 use Rattle.mesh.proofs.Tables.{rows_suffice}
 use Rattle.checks.proofs.Laws.{room}
@@ -9,7 +9,7 @@ use Rattle.checks.proofs.check_within.Goals.{Start}
 
 -- the mesh of a call
 abbrev mesh : Start → Mesh
-mesh s = mesh_of s.args.coordinates.now s.args.sides.now s.args.corners.now s.args.sharpness.now
+mesh s = of_lists s.args.lists
 
 pub check_over-requires : goal.check_over-requires
 check_over-requires c =

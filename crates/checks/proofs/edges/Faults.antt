@@ -12,14 +12,13 @@ use Rattle.paper.specs.Scan.{some_below, first_below}
 use Rattle.paper.specs.Mesh.{most_corners}
 use Rattle.paper.specs.Corners.{sum_of, next, previous}
 use Rattle.paper.specs.Links.{vertex_of, leaves_to, arrives_from, same_edge, reverse_edge, linked, link, reverse}
-use Rattle.paper.specs.Faults.{sound, lowest_of, fault10, fault11, stated}
-use Rattle.paper.specs.declared.Answer.{Answer}
-use Rattle.paper.specs.declared.Answer.TheVariants.{Done, Refused}
+use Rattle.paper.specs.Faults.{sound, fault, lowest_of, fault10, fault11, stated, Answer, done}
 use Rattle.mesh.specs.Closed.{Closed}
 use Rattle.mesh.proofs.Scans.{ways, clash, and_true, and_left, and_right, first_fails, some_true, some_false, some_below_lem, some_passes, none}
 use Rattle.mesh.proofs.Faces.{next_below, previous_below, next_previous, previous_next}
 use Rattle.mesh.proofs.Links.{unique, reverse_in, reverse_vertex, reverse_to, link_is}
-use Rattle.mesh.proofs.Verdicts.{lowest_hit, lowest_none, lowest_sound, or_else_fault, or_else_sound, unsound}
+use Rattle.mesh.proofs.Verdicts.{lowest_hit, lowest_none, lowest_sound, or_else_sound, unsound}
+use Rattle.list_checks.proofs.Laws.{stops}
 use Rattle.walk.specs.Table.{to_link, entry, Column}
 use Rattle.checks.specs.columns.Vertices.{leaving_here, arriving_here, noted}
 use Rattle.checks.specs.edges.Entries.{repeated, alone, Entry, again, single, joined, Entries, has, to, from, Hit, InColumn, MarkedFrom, StepsBelong}
@@ -186,12 +185,12 @@ module _ (sides corners table : List ℕ) (small : length corners ≤ most_corne
 
 -- ---- the ways out of 10 and 11
 module _ (corners table : List ℕ) (small : length corners ≤ most_corners) where
-  pub repeats_refused : (r : Answer) (k p : ℕ) → r ≡ Refused k p → stated r ≡ lowest_of 10 (length corners) (has table repeated)
-      → EdgesChecked corners table (Refused k p)
-  repeats_refused r k p q a =
+  pub repeats_refused : (r : Answer) (k p : ℕ) → stated r ≡ fault k p → fault k p ≡ lowest_of 10 (length corners) (has table repeated)
+      → EdgesChecked corners table r
+  repeats_refused r k p q e =
       record {
-        answers = λ sides s t. sym (or_else_fault k p _ (sym (a ∙ ten_found sides corners table small t) ∙ ap stated q));
-        links = λ sides s t. unsound k p;
+        answers = λ sides s t. q ∙ stops k p _ (e ∙ ten_found sides corners table small t);
+        links = λ sides s t z. unsound k p (sym q ∙ z);
       }
 
   pub edges_checked : (r : Answer) → sound ≡ lowest_of 10 (length corners) (has table repeated)
@@ -212,8 +211,8 @@ module _ (corners table : List ℕ) (small : length corners ≤ most_corners) wh
       eleven sides s t = b ∙ eleven_found sides corners table small t (ten sides t) s
 
   -- no entry is as high as one of a corner at fault
-  pub edges_passed : (most : ℕ) → most < alone → ((c : ℕ) → c < length corners → entry table to_link c ≤ most) → EdgesChecked corners table Done
-  edges_passed most l h = edges_checked Done (sym (lowest_none 10 _ _ (other repeated (omega arith)))) (sym (lowest_none 11 _ _ (other alone (omega arith))))
+  pub edges_passed : (most : ℕ) → most < alone → ((c : ℕ) → c < length corners → entry table to_link c ≤ most) → EdgesChecked corners table done
+  edges_passed most l h = edges_checked done (sym (lowest_none 10 _ _ (other repeated (omega arith)))) (sym (lowest_none 11 _ _ (other alone (omega arith))))
     where
       other : (x : ℕ) → most < x → (c : ℕ) → c < length corners → has table x c ≡ false
       other x m c b = ne_eqb (entry table to_link c) x (λ q. omega (arith, h c b))

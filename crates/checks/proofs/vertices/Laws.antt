@@ -3,7 +3,7 @@ use mathlib.Core.Path.{◌≡◌, refl, ap, ◌∙◌, sym}
 use mathlib.Core.Bool.{Bool, true, false}
 use mathlib.Core.Logic.{⊎_elim}
 use mathlib.Core.List.{List}
-use Prim.Native.Nat.{ℕ, zero, suc, ◌+◌, ◌-◌, ◌<◌, ◌≤◌}
+use Prim.Native.Nat.{ℕ, zero, suc, ◌+◌, ◌<◌, ◌≤◌}
 use native.Mathlib.Omega.{arith}
 use native.Mathlib.Numerals.{add-one}
 use lib.Dec.{eqb}
@@ -12,15 +12,14 @@ use borrow.Author.Tests.{eq-eqb, ne_eqb, eqb-true, lt-ltb, le-ltb}
 use Rattle.paper.specs.Scan.{first_below, count_below, iterate}
 use Rattle.paper.specs.Mesh.{least_sides}
 use Rattle.paper.specs.Links.{vertex_of, names, link, valence, lowest}
-use Rattle.paper.specs.Faults.{fault12, fault13, after, ring_length, met, sound, fault, lowest_of, stated}
-use Rattle.paper.specs.declared.Answer.{Answer}
-use Rattle.paper.specs.declared.Answer.TheVariants.{Refused}
+use Rattle.paper.specs.Faults.{fault12, fault13, after, ring_length, met, sound, fault, lowest_of, stated, Answer}
 use Rattle.mesh.specs.Closed.{Closed}
 use Rattle.mesh.proofs.Scans.{first_passes, first_fails, some_false, ways, compared, first_none, first_at, first_le_all, fails_step}
 use Rattle.mesh.proofs.Rings.{Turns, period_le, comes_back, met_all, count_none, iterate_zero, iterate_suc}
 use Rattle.mesh.proofs.Links.{link_in}
 use Rattle.mesh.proofs.Accepted.{turns, ring_full, valence_within}
-use Rattle.mesh.proofs.Verdicts.{lowest_hit, lowest_none, lowest_sound, stop, past}
+use Rattle.mesh.proofs.Verdicts.{lowest_hit, lowest_none, lowest_sound, past}
+use Rattle.list_checks.proofs.Laws.{stops}
 use Rattle.walk.specs.Table.{to_link, entry, Column}
 use Rattle.checks.specs.columns.Vertices.{count_here, lowest_here, noted}
 use Rattle.checks.specs.columns.Filled.{CornersCounted}
@@ -30,39 +29,36 @@ use Rattle.checks.specs.vertices.Ring.{ring_within, Cornered, Ringed, VerticesCh
 abbrev pub back_at : (ℕ → ℕ) → ℕ → ℕ → Bool
 back_at step start j = eqb (iterate (suc j) step start) start
 
-pub record RingWalked (step : ℕ → ℕ) (count start bound left len at : ℕ) : Type 0 where
-  pub sum : len + left ≡ bound
+pub record RingWalked (step : ℕ → ℕ) (count start len at : ℕ) : Type 0 where
   pub place : at ≡ iterate len step start
   pub within : at < count
   pub fresh : (j : ℕ) → j < len → back_at step start j ≡ false
 
-pub around_start : (step : ℕ → ℕ) (count start bound : ℕ) → start < count → RingWalked step count start bound bound 0 start
-around_start step count start bound h =
-    record { sum = omega arith; place = sym (iterate_zero step start); within = h; fresh = λ j l. absurd (omega arith) }
+pub around_start : (step : ℕ → ℕ) (count start : ℕ) → start < count → RingWalked step count start 0 start
+around_start step count start h =
+    record { place = sym (iterate_zero step start); within = h; fresh = λ j l. absurd (omega arith) }
 
-module _ (step : ℕ → ℕ) (count start bound left len at : ℕ) (a : RingWalked step count start bound left len at) where
-  pub ring_none : left ≡ 0 → 0 ≡ ring_within step start bound
+module _ (step : ℕ → ℕ) (count start bound len at : ℕ) (a : RingWalked step count start len at) where
+  pub ring_none : bound ≤ len → 0 ≡ ring_within step start bound
   unfolding ring_within
   ring_none e =
-      let q : first_below bound (back_at step start) ≡ bound = first_none bound (back_at step start) (λ j l. a.fresh j (omega (arith, a.sum))) in
+      let q : first_below bound (back_at step start) ≡ bound = first_none bound (back_at step start) (λ j l. a.fresh j (omega arith)) in
       rw (le-ltb (first_below bound (back_at step start)) bound (omega arith))
 
   stepped : step at ≡ iterate (suc len) step start
   stepped = ap step a.place ∙ sym (iterate_suc step len start)
 
   -- one step, to where the link leads
-  module _ (n : left ≡ 0 → ⊥) (to : ℕ) (q : to ≡ step at) where
+  module _ (n : len < bound) (to : ℕ) (q : to ≡ step at) where
     pub ring_back : to ≡ start → len + 1 ≡ ring_within step start bound
     unfolding ring_within
     ring_back e =
-        let l : len < bound = omega (arith, a.sum) in
-        let f : first_below bound (back_at step start) ≡ len = first_at bound (back_at step start) len l (eq-eqb _ _ (sym stepped ∙ sym q ∙ e)) a.fresh in
+        let f : first_below bound (back_at step start) ≡ len = first_at bound (back_at step start) len n (eq-eqb _ _ (sym stepped ∙ sym q ∙ e)) a.fresh in
         rw (lt-ltb (first_below bound (back_at step start)) bound (omega arith)) (omega arith)
 
-    pub around_next : step at < count → (to ≡ start → ⊥) → RingWalked step count start bound (left - 1) (len + 1) to
+    pub around_next : step at < count → (to ≡ start → ⊥) → RingWalked step count start (len + 1) to
     around_next w ne =
         record {
-          sum = omega (arith, a.sum);
           place = q ∙ rw add-one stepped;
           within = omega arith;
           fresh = fails_step (back_at step start) len a.fresh (ne_eqb _ _ (λ e. ne (q ∙ stepped ∙ e)));
@@ -166,9 +162,9 @@ cornered corners count e u h = (valence_within corners u (lowest_sound 12 count 
 
 -- ---- the ways out of 12 and 13
 module _ (corners : List ℕ) (count : ℕ) (table : List ℕ) where
-  pub valences_refused : (r : Answer) (k p : ℕ) → r ≡ Refused k p → stated r ≡ lowest_of 12 count (fault12 corners)
-      → VerticesChecked corners count table (Refused k p)
-  valences_refused r k p q a sides c t = stop r a k p q _
+  pub valences_refused : (r : Answer) (k p : ℕ) → stated r ≡ fault k p → fault k p ≡ lowest_of 12 count (fault12 corners)
+      → VerticesChecked corners count table r
+  valences_refused r k p q e sides c t = q ∙ stops k p _ e
 
   pub vertices_checked : (r : Answer) → lowest_of 12 count (fault12 corners) ≡ sound → Ringed corners table count r → VerticesChecked corners count table r
   vertices_checked r twelve a sides c t = past twelve _ (a sides c t)

@@ -3,8 +3,7 @@ use Rattle.std.specs.Prelude.{◌≡◌, Bool, true, false, List, ℕ, ◌+◌, 
 use Rattle.paper.specs.Mesh.{most_corners}
 use Rattle.paper.specs.Corners.{sum_of, next, previous}
 use Rattle.paper.specs.Links.{vertex_of, linked, link, valence, lowest}
-use Rattle.paper.specs.Faults.{sound, ◌or_else◌, lowest_of, fault10, fault11, stated}
-use Rattle.paper.specs.declared.Answer.{Answer}
+use Rattle.paper.specs.Faults.{sound, ◌or_else◌, lowest_of, fault10, fault11, stated, Answer}
 use Rattle.walk.specs.Table.{row_length, to_next, to_previous, to_link, sides_here, valence_here, entry, Column, Kept}
 use Rattle.checks.specs.columns.Vertices.{last_here, leaving_here, arriving_here, count_here, lowest_here, noted, Rowed}
 use Rattle.checks.specs.columns.Chain.{EarliersFrom, last_of}

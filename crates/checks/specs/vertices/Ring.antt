@@ -3,8 +3,7 @@ use Rattle.std.specs.Prelude.{◌≡◌, List, ℕ, suc, ◌*◌, ◌<◌, ◌�
 use Rattle.paper.specs.Scan.{pick_n, first_below, iterate}
 use Rattle.paper.specs.Mesh.{least_sides}
 use Rattle.paper.specs.Links.{link, valence}
-use Rattle.paper.specs.Faults.{◌or_else◌, lowest_of, fault12, fault13, stated}
-use Rattle.paper.specs.declared.Answer.{Answer}
+use Rattle.paper.specs.Faults.{◌or_else◌, lowest_of, fault12, fault13, stated, Answer}
 use Rattle.mesh.specs.Closed.{Closed}
 use Rattle.walk.specs.Table.{row_length, to_link, entry, Column}
 

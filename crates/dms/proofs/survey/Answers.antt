@@ -2,16 +2,16 @@
 use mathlib.Core.Path.{sym, subst}
 use mathlib.Core.List.{List}
 use Prim.Native.Nat.{ℕ}
+use native.Mathlib.Omega.{arith}
 use lib.Seq.{length-take-le}
 use Rattle.paper.specs.File.{FileSurveyed}
 use Rattle.dms_lists.proofs.Reading.{held_bytes}
 use Rattle.dms.proofs.survey.Goals as goal
 
 pub slice_bounds-survey_file-end : goal.slice_bounds-survey_file-end
-slice_bounds-survey_file-end c = sym (length-take-le _ c.args.bytes.now c.least-held.ensures.0)
+slice_bounds-survey_file-end c = sym (length-take-le _ c.args.bytes.now (omega arith))
 
 pub returns : goal.returns
 returns c =
-    let l = c.least-held in
     subst (λ (file : List ℕ). FileSurveyed file c.args.counted c.survey_file.result)
-    (held_bytes c.args.bytes.now _ c.args.counted l.ensures.1.0 l.ensures.1.1) c.survey_file.ensures
+    (held_bytes c.args.bytes.now _ c.args.counted (omega arith) (omega arith)) c.survey_file.ensures

@@ -1,7 +1,10 @@
 -- The ways out of the header's check, and what a header that passes says of the file.
 use mathlib.Core.Path.{◌≡◌, sym}
 use mathlib.Core.Bool.{true, false, not}
-use mathlib.Core.List.{List}
+use mathlib.Core.List.{List, [], ◌∷◌}
+use Rattle.std.specs.List.{starts_with}
+use Rattle.std.specs.Cmp.{nat_eq_equiv}
+use Rattle.std.proofs.Math.Bool.{and-true}
 use Prim.Native.Nat.{ℕ, ◌*◌, ◌<◌, ◌≤◌}
 use native.Mathlib.Omega.{arith}
 use lib.Dec.{ltb, eqb}
@@ -14,6 +17,14 @@ use Rattle.mesh.proofs.Ranges.{none_left}
 use Rattle.mesh.proofs.Accepted.{few_vertices, few_faces, few_corners}
 use Rattle.mesh.proofs.Verdicts.{sound_left, sound_right, single_sound, single_hit, single_miss}
 use Rattle.dms_lists.specs.header.ListsWithin.{ListsWithin}
+
+-- the first three bytes are those of the mark
+pub mark_first : (file : List ℕ) → header_length ≤ length file → starts_with eqb file (68 ∷ 77 ∷ 83 ∷ []) ≡ marked file
+unfolding marked
+mark_first [] h = absurd (omega arith)
+mark_first (a ∷ []) h = absurd (omega arith)
+mark_first (a ∷ (b ∷ [])) h = absurd (omega arith)
+mark_first (a ∷ (b ∷ (c ∷ rest))) h = rw (nat_eq_equiv.symm 68 a, nat_eq_equiv.symm 77 b, nat_eq_equiv.symm 83 c, and-true (eqb c 83))
 
 -- the version read, first or second
 module _ (file : List ℕ) (v : ℕ) (e : v ≡ version_in file) where

@@ -33,9 +33,6 @@ module _ (s : Start) where
 is : (c : After-point) → to_z w32 (of_z w32 c.point.result) ≡ point_at c.args.points.now c.args.axis c.args.c
 is c = (read _ _ c.point.ensures c.requires.point.1).0
 
-pub overflow_cast-result : goal.overflow_cast-result
-overflow_cast-result c = rw (is c) (point_fits (search))
-
 pub overflow_mul-result : goal.overflow_mul-result
 overflow_mul-result c = rw (is c, to_z-of_z c.ranges.w, to_z-of_z (point_fits (search))) (product (search))
 

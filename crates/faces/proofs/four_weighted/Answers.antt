@@ -6,14 +6,6 @@ use mir.Facts.{to_z-of_z}
 use Rattle.faces.proofs.Few.{read, four_toward}
 use Rattle.faces.proofs.four_weighted.Goals as goal
 
-pub toward-requires : goal.toward-requires
-toward-requires d = (
-  (read _ _ d.point.ensures d.requires.0.1).1,
-  (read _ _ d.point-2.ensures d.requires.1.1).1,
-  (read _ _ d.point-3.ensures d.requires.2.1).1,
-  (read _ _ d.point-4.ensures d.requires.3.1).1,
-)
-
 pub returns : goal.returns
 returns c =
     let k = c.requires in

@@ -22,13 +22,6 @@ by_weights n m = ap (λ (k : ℕ). round n (pos k)) (same m)
     same : (m : ℕ) → 2 ^ 30 * (3 * m) ≡ 3 * unit * m
     same m = omega arith
 
-pub overflow_mul-d : goal.overflow_mul-d
-overflow_mul-d c = rw ((counts _ c.requires.count.1).0) (counts _ c.requires.count.1).1
-
-pub round_units-requires : goal.round_units-requires
-round_units-requires c =
-    rw ((counts _ c.requires.count.1).0, to_z-of_z (counts _ c.requires.count.1).1, to_z-of_z c.ranges.x) (c.requires.sums.0, c.requires.count.2)
-
 pub round_units-requires-2 : goal.round_units-requires-2
 round_units-requires-2 c =
     rw ((counts _ c.requires.count.1).0, to_z-of_z (counts _ c.requires.count.1).1, to_z-of_z c.ranges.y) (c.requires.sums.1, c.requires.count.2)

@@ -9,47 +9,43 @@ use mir.Val.{SFits}
 use mir.Facts.{to_z-of_z}
 use Rattle.faces.proofs.ring_centre.Goals as goal
 
-pub loop-j-init : goal.loop-j-init
-loop-j-init c = turn_first _ _ _ _ _ _
+pub loop-init : goal.loop-init
+loop-init c = turn_first _ _ _ _ _ _
 
 pub add_point-x-requires : goal.add_point-x-requires
 add_point-x-requires c =
-    let a = (asks _ _ _ _ _ c.requires.ring equal equal_size _ _ _ _ _ _ (by_bits c.loop-j.auto.x-fits c.loop-j.auto.y-fits c.loop-j.auto.z-fits c.loop-j.invariant) refl).0 in
+    let a = (asks _ _ _ _ _ c.requires.ring equal equal_size _ _ _ _ _ _ (by_bits c.loop.auto.x-fits c.loop.auto.y-fits c.loop.auto.z-fits c.loop.invariant) refl).0 in
     record { point = a.0; sizes = a.1 }
 
 pub add_point-y-requires : goal.add_point-y-requires
 add_point-y-requires c =
-    let a = (asks _ _ _ _ _ c.requires.ring equal equal_size _ _ _ _ _ _ (by_bits c.loop-j.auto.x-fits c.loop-j.auto.y-fits c.loop-j.auto.z-fits c.loop-j.invariant) refl).1 in
+    let a = (asks _ _ _ _ _ c.requires.ring equal equal_size _ _ _ _ _ _ (by_bits c.loop.auto.x-fits c.loop.auto.y-fits c.loop.auto.z-fits c.loop.invariant) refl).1 in
     record { point = a.0; sizes = a.1 }
 
 pub add_point-z-requires : goal.add_point-z-requires
 add_point-z-requires c =
-    let a = (asks _ _ _ _ _ c.requires.ring equal equal_size _ _ _ _ _ _ (by_bits c.loop-j.auto.x-fits c.loop-j.auto.y-fits c.loop-j.auto.z-fits c.loop-j.invariant) refl).2 in
+    let a = (asks _ _ _ _ _ c.requires.ring equal equal_size _ _ _ _ _ _ (by_bits c.loop.auto.x-fits c.loop.auto.y-fits c.loop.auto.z-fits c.loop.invariant) refl).2 in
     record { point = a.0; sizes = a.1 }
 
 pub by-at-requires : goal.by-at-requires
 by-at-requires c =
-    c.requires.ring.table_holds _ (place_in _ _ _ _ _ c.requires.ring _ _ c.loop-j.invariant.place)
+    c.requires.ring.table_holds _ (place_in _ _ _ _ _ c.requires.ring _ _ c.loop.invariant.place)
 
-pub overflow_add-j : goal.overflow_add-j
-overflow_add-j c =
-    omega (arith, c.loop-j-test.true, c.requires.ring.most)
-
-pub loop-j-preserved : goal.loop-j-preserved
-loop-j-preserved c =
+pub loop-preserved : goal.loop-preserved
+loop-preserved c =
     let f : SFits w64 c.add_point-x.result = search rules in
     let g : SFits w64 c.add_point-y.result = search rules in
     let k : SFits w64 c.add_point-z.result = search rules in
-    let t = by_bits c.loop-j.auto.x-fits c.loop-j.auto.y-fits c.loop-j.auto.z-fits c.loop-j.invariant in
+    let t = by_bits c.loop.auto.x-fits c.loop.auto.y-fits c.loop.auto.z-fits c.loop.invariant in
     simp (to_z-of_z, f, g, k)
-    (turn_next _ _ _ _ _ c.requires.ring equal equal_size _ _ _ _ _ _ _ _ _ _ c.loop-j-test.true t refl c.by-at.ensures c.add_point-x.ensures
+    (turn_next _ _ _ _ _ c.requires.ring equal equal_size _ _ _ _ _ _ _ _ _ _ c.loop-test.true t refl c.by-at.ensures c.add_point-x.ensures
     c.add_point-y.ensures c.add_point-z.ensures)
 
 pub quotient-requires : goal.quotient-requires
 quotient-requires c =
-    let i = by_bits c.loop-j.auto.x-fits c.loop-j.auto.y-fits c.loop-j.auto.z-fits c.loop-j.invariant in
+    let i = by_bits c.loop.auto.x-fits c.loop.auto.y-fits c.loop.auto.z-fits c.loop.invariant in
     let r = c.requires.ring in
-    let e : c.loop-j.j ≡ c.args.m = omega (arith, i.left) in record {
+    let e : c.loop.counter ≡ c.args.m = omega (arith, i.left) in record {
       count = (r.least, r.most, c.requires.reciprocal);
       sums = (
         centre_units _ _ (point_ring _ _ _ _ _ r 0 (lit< tt)) _ (rw e at i.sum_x),
@@ -60,9 +56,6 @@ quotient-requires c =
 
 pub returns : goal.returns
 returns c =
-    let i = by_bits c.loop-j.auto.x-fits c.loop-j.auto.y-fits c.loop-j.auto.z-fits c.loop-j.invariant in
-    let e : c.loop-j.j ≡ c.args.m = omega (arith, i.left) in
+    let i = by_bits c.loop.auto.x-fits c.loop.auto.y-fits c.loop.auto.z-fits c.loop.invariant in
+    let e : c.loop.counter ≡ c.args.m = omega (arith, i.left) in
     centre_end _ _ _ _ _ _ _ _ _ c.requires.ring _ (rw e at i) c.quotient.ensures
-
-pub loop-j-smaller : goal.loop-j-smaller
-loop-j-smaller c = omega (arith, c.loop-j-test.true)

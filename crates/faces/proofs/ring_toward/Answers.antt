@@ -67,10 +67,6 @@ pub by-at-requires : goal.by-at-requires
 by-at-requires c =
     c.requires.ring.table_holds _ (place_in _ _ _ _ _ c.requires.ring _ _ c.loop-j.invariant.0.place)
 
-pub overflow_add-j : goal.overflow_add-j
-overflow_add-j c =
-    omega (arith, c.loop-j-test.true, c.requires.ring.most)
-
 pub loop-j-preserved : goal.loop-j-preserved
 loop-j-preserved c =
     let r = c.requires.ring in
@@ -108,6 +104,3 @@ returns c =
 
 pub overflow_sub-m : goal.overflow_sub-m
 overflow_sub-m c = omega (arith, c.requires.ring.least)
-
-pub loop-j-smaller : goal.loop-j-smaller
-loop-j-smaller c = omega (arith, c.loop-j-test.true)

@@ -6,13 +6,6 @@ use mir.Facts.{to_z-of_z}
 use Rattle.faces.proofs.Few.{read, three_centre}
 use Rattle.faces.proofs.three_mean.Goals as goal
 
-pub mean_of_three-requires : goal.mean_of_three-requires
-mean_of_three-requires d = (
-  (read _ _ d.point.ensures d.requires.0.1).1,
-  (read _ _ d.point-2.ensures d.requires.1.1).1,
-  (read _ _ d.point-3.ensures d.requires.2.1).1,
-)
-
 pub returns : goal.returns
 returns c =
     let k = c.requires in

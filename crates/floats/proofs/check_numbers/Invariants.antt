@@ -1,13 +1,9 @@
 -- Check 19 meets its contract: no number before `i` is at fault.
 use mathlib.Core.Path.{◌≡◌}
 use mathlib.Core.Bool.{false}
-use Prim.Native.Nat.{ℕ, ◌≤◌, ◌<◌, ◌-◌}
-use lib.ListN.{length}
+use Prim.Native.Nat.{ℕ, ◌<◌}
 use Rattle.paper.specs.Floats.{fault19}
 use Rattle.floats.proofs.check_numbers.Given as goal
 
 abbrev pub invariant-loop-i : goal.invariant-loop-i
-invariant-loop-i l = (l.i ≤ length l.numbers) × ((j : ℕ) → j < l.i → fault19 l.numbers j ≡ false)
-
-abbrev pub decreases-loop-i : goal.decreases-loop-i
-decreases-loop-i l = length l.numbers - l.i
+invariant-loop-i l = (j : ℕ) → j < l.i → fault19 l.numbers j ≡ false

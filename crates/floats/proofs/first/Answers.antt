@@ -12,6 +12,6 @@ pub float_to_float-result : goal.float_to_float-result
 float_to_float-result c =
     multiple_narrows c.args.d c.requires.0 c.multiple.result c.multiple.ensures
 
-pub returns : goal.returns
-returns c =
+pub returns-else-near : goal.returns-else-near
+returns-else-near c =
     far_first_lem c.args.d c.requires.0 _ c.multiple.ensures c.args.near c.if-near.false

@@ -28,30 +28,29 @@ pub put_net-requires : goal.put_net-requires
 put_net-requires c = (
   subst (λ (x : ℕ). net_verdict (take x (drop (per_corner * c.loop-t.t) c.args.numbers.now)) ≡ sound)
       (let z : per_corner ≡ per_corner * c.loop-t.t + per_corner - per_corner * c.loop-t.t = omega arith in z) (net_passes c.args.numbers.now _ c.requires c.loop-t.t (inside (search)).0),
-  omega (arith, inside (search), c.loop-t.invariant.1),
+  omega (arith, inside (search), c.loop-t.invariant.0),
 )
 
 pub loop-t-preserved : goal.loop-t-preserved
 loop-t-preserved c = (
-  omega (arith, inside (search)),
-  omega (arith, c.loop-t.invariant.1),
+  omega (arith, c.loop-t.invariant.0),
   nets_step c.args.numbers.now _ c.requires c.loop-t.t c.args.floats.now c.loop-t.floats _ refl (inside (search)).0 _
       (ap (λ (x : ℕ). take x (drop (per_corner * c.loop-t.t) c.args.numbers.now)) (let z : per_corner * c.loop-t.t + per_corner - per_corner * c.loop-t.t ≡ per_corner = omega arith in z))
-      (2 * (per_corner * c.loop-t.t)) (omega arith) c.loop-t.invariant.2 c.put_net.ensures,
+      (2 * (per_corner * c.loop-t.t)) (omega arith) c.loop-t.invariant.1 c.put_net.ensures,
 )
 
 pub returns : goal.returns
 returns c =
-    nets_all c.args.numbers.now _ c.requires c.loop-t.t c.args.floats.now c.loop-t.floats (omega (arith, c.loop-t.invariant.0)) c.loop-t.invariant.2
+    nets_all c.args.numbers.now _ c.requires c.loop-t.t c.args.floats.now c.loop-t.floats (omega arith) c.loop-t.invariant.1
 
 pub loop-t-init : goal.loop-t-init
-loop-t-init c = (omega arith, refl, filled_none _ _)
+loop-t-init c = (refl, filled_none _ _)
 
 pub overflow_mul-at : goal.overflow_mul-at
 overflow_mul-at c = record { fits = omega (arith, inside (search)) }
 
-pub overflow_add-end : goal.overflow_add-end
-overflow_add-end c = record { fits = omega (arith, inside (search)) }
+pub overflow_add-at : goal.overflow_add-at
+overflow_add-at c = record { fits = omega (arith, inside (search)) }
 
 pub offset_bounds-numbers-at : goal.offset_bounds-numbers-at
 offset_bounds-numbers-at c = record { fits = omega (arith, inside (search)) }
@@ -63,4 +62,4 @@ pub overflow_mul-at-in-loop-t : goal.overflow_mul-at-in-loop-t
 overflow_mul-at-in-loop-t c = record { fits = omega (arith, inside (search)) }
 
 pub shape_of-floats : goal.shape_of-floats
-shape_of-floats c = c.loop-t.invariant.1
+shape_of-floats c = c.loop-t.invariant.0

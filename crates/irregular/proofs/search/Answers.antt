@@ -1,35 +1,36 @@
 -- `search` meets its contract: a refusal of 4 to 13, or the lowest irregular face, else vertex, else none.
-use Rattle.paper.specs.Mesh.{mesh_of}
-use Rattle.paper.specs.Faults.{Accepted}
-use Rattle.mesh.proofs.Verdicts.{passed}
-use Rattle.irregular.proofs.Laws.{few_enough, search_refused_lem, search_face, search_vertex, search_none}
+use mathlib.Core.Path.{◌∙◌, sym}
+use Rattle.std.proofs.lemmas.Result.{err_from_is_err_and}
+use Rattle.paper.specs.Mesh.{of_lists}
+use Rattle.mesh.proofs.Accepted.{sound_of, few_faces}
 use native.Mathlib.Omega.{arith}
+use Rattle.irregular.proofs.Laws.{face_found_lem, few_enough, lowest_within, search_refused_lem, search_face, search_vertex}
+use lib.ListN.{length}
+use Rattle.paper.specs.Irregular.{irregular_face}
 use Rattle.irregular.proofs.search.Goals as goal
 
-pub returns-in-Refused : goal.returns-in-Refused
-returns-in-Refused c =
-    search_refused_lem (mesh_of c.args.coordinates.now c.args.sides.now c.args.corners.now c.args.sharpness.now) c.check-answer.ensures c.in-Refused.is
+pub returns-in_err-check : goal.returns-in_err-check
+returns-in_err-check c =
+    let p = err_from_is_err_and c.from_residual.result c.from_residual.ensures.1 in
+    rw (p.1, p.2) (search_refused_lem (of_lists c.args.lists) _ c.check.ensures c.in_err-check.was)
 
-pub returns-then-face-sides : goal.returns-then-face-sides
-returns-then-face-sides c =
-    let M = mesh_of c.args.coordinates.now c.args.sides.now c.args.corners.now c.args.sharpness.now in
-    let a : Accepted M = passed _ c.check-answer.ensures c.in_default.is in
-    search_face M a c.search_faces-faces.ensures (omega arith)
+pub returns-in-Some : goal.returns-in-Some
+returns-in-Some c =
+    let M = of_lists c.args.lists in
+    search_face M (sym c.in_ok-check.ensures) c.in-Some.face (sym (face_found_lem _) ∙ sym c.in-Some.ensures)
 
-pub search_corners-vertex-requires : goal.search_corners-vertex-requires
-search_corners-vertex-requires c =
-    let M = mesh_of c.args.coordinates.now c.args.sides.now c.args.corners.now c.args.sharpness.now in
-    let a : Accepted M = passed _ c.check-answer.ensures c.in_default.is in
-    few_enough M a
-
-pub returns-then-vertex-count : goal.returns-then-vertex-count
-returns-then-vertex-count c =
-    let M = mesh_of c.args.coordinates.now c.args.sides.now c.args.corners.now c.args.sharpness.now in
-    let a : Accepted M = passed _ c.check-answer.ensures c.in_default.is in
-    search_vertex M a c.search_faces-faces.ensures (omega arith) c.search_corners-vertex.ensures (omega arith)
+pub lowest_vertex-vertex-requires : goal.lowest_vertex-vertex-requires
+lowest_vertex-vertex-requires c =
+    let M = of_lists c.args.lists in
+    few_enough M (sym c.in_ok-check.ensures)
 
 pub returns : goal.returns
 returns c =
-    let M = mesh_of c.args.coordinates.now c.args.sides.now c.args.corners.now c.args.sharpness.now in
-    let a : Accepted M = passed _ c.check-answer.ensures c.in_default.is in
-    search_none M a c.search_faces-faces.ensures (omega arith) c.search_corners-vertex.ensures (omega arith)
+    let M = of_lists c.args.lists in
+    search_vertex M (sym c.in_ok-check.ensures) (sym (c.lowest_face.ensures ∙ face_found_lem _) ∙ c.in_default.is) c.lowest_vertex-vertex.result c.lowest_vertex-vertex.ensures
+    c.map.result c.map.ensures.cases
+
+pub overflow_add-result : goal.overflow_add-result
+overflow_add-result c =
+    let M = of_lists c.args.lists in
+    omega (arith, lowest_within (length c.args.lists.sides.now) (irregular_face c.args.lists.sides.now) c.in-Some.face (sym (face_found_lem _) ∙ sym c.in-Some.ensures), few_faces _ _ _ (sound_of M (sym c.in_ok-check.ensures)).four)

@@ -9,7 +9,7 @@ use Rattle.linking.proofs.link.Goals as goal
 
 pub link_over-requires : goal.link_over-requires
 link_over-requires c =
-    rows_for (length c.args.corners.now) small_mesh (λ h. omega (arith, rows_suffice _ _ c.table_rows.ensures h))
+    rows_for (length c.args.lists.corners.now) small_mesh (λ h. omega (arith, rows_suffice _ _ c.table_rows.ensures h))
 
 pub link_over-requires-else-table_rows-eq-SMALL_MESH : goal.link_over-requires-else-table_rows-eq-SMALL_MESH
-link_over-requires-else-table_rows-eq-SMALL_MESH c = rows_for (length c.args.corners.now) most_corners (λ h. h)
+link_over-requires-else-table_rows-eq-SMALL_MESH c = rows_for (length c.args.lists.corners.now) most_corners (λ h. h)

@@ -1,5 +1,4 @@
 -- `mahunopi::mahunopi_archive` meets its contract: it tells what `rearrange::archive` answers.
-use borrow.Author.Rules.{rules}
 use Rattle.mahunopi.proofs.Laws.{called}
 use Rattle.mahunopi.proofs.mahunopi_archive.Goals as goal
 

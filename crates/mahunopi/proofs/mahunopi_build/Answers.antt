@@ -1,5 +1,4 @@
 -- `mahunopi::mahunopi_build` meets its contract: it tells what `building::build` answers.
-use borrow.Author.Rules.{rules}
 use Rattle.mahunopi.proofs.Laws.{called}
 use Rattle.mahunopi.proofs.mahunopi_build.Goals as goal
 

@@ -1,7 +1,6 @@
 -- `mahunopi::mahunopi_floats_all` meets its contract: it tells what `floats::all_points` answers.
-use borrow.Author.Rules.{rules}
 use Rattle.mahunopi.proofs.Laws.{floats_all_call}
 use Rattle.mahunopi.proofs.mahunopi_floats_all.Goals as goal
 
 pub returns : goal.returns
-returns c = floats_all_call _ _ _ _ _ _ _ c.all_points-a.ensures c.tell.ensures
+returns c = floats_all_call _ _ _ _ _ _ _ c.all_points.ensures c.tell.ensures

@@ -1,5 +1,4 @@
 -- `mahunopi::mahunopi_link` meets its contract: it tells what `linking::link` answers.
-use borrow.Author.Rules.{rules}
 use Rattle.mahunopi.proofs.Laws.{called}
 use Rattle.mahunopi.proofs.mahunopi_link.Goals as goal
 

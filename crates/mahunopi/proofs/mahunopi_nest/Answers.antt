@@ -1,5 +1,4 @@
 -- `mahunopi::mahunopi_nest` meets its contract: it tells what `nesting::nest` answers.
-use borrow.Author.Rules.{rules}
 use Rattle.mahunopi.proofs.Laws.{called}
 use Rattle.mahunopi.proofs.mahunopi_nest.Goals as goal
 

@@ -11,4 +11,4 @@ returns c =
     let x : to_z w32 (of_z w32 c.args.x) ≡ c.args.x = search rules in
     let y : to_z w32 (of_z w32 c.args.y) ≡ c.args.y = search rules in
     let z : to_z w32 (of_z w32 c.args.z) ≡ c.args.z = search rules in
-    preview_call _ c.args.vertex c.args.x c.args.y c.args.z _ _ _ x y z _ _ _ _ _ _ _ _ _ c.preview-a.ensures c.tell.ensures
+    preview_call _ c.args.vertex c.args.x c.args.y c.args.z _ _ _ x y z _ _ _ _ _ _ _ _ _ c.preview.ensures c.tell.ensures

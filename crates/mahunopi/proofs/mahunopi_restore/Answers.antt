@@ -1,5 +1,4 @@
 -- `mahunopi::mahunopi_restore` meets its contract: it tells what `rearrange::restore` answers.
-use borrow.Author.Rules.{rules}
 use Rattle.mahunopi.proofs.Laws.{called}
 use Rattle.mahunopi.proofs.mahunopi_restore.Goals as goal
 

@@ -1,5 +1,4 @@
 -- `mahunopi::mahunopi_sample_triangle` meets its contract: it tells what `sampling::sample_triangle` answers.
-use borrow.Author.Rules.{rules}
 use Rattle.mahunopi.proofs.Laws.{called}
 use Rattle.mahunopi.proofs.mahunopi_sample_triangle.Goals as goal
 

@@ -1,5 +1,4 @@
 -- `mahunopi::mahunopi_touched` meets its contract: it tells what `touching::touched` answers.
-use borrow.Author.Rules.{rules}
 use Rattle.mahunopi.proofs.Laws.{called}
 use Rattle.mahunopi.proofs.mahunopi_touched.Goals as goal
 

@@ -2,13 +2,11 @@
 use mathlib.Core.Path.{◌≡◌, sym, ◌∙◌}
 use mathlib.Core.List.{List}
 use Prim.Native.Nat.{ℕ}
-use lib.ListN.{length}
 use Rattle.paper.specs.Nesting.{may_follow, next_body}
 use Rattle.mesh.proofs.Scans.{first_at, first_none, fails_step}
 use Rattle.nesting.specs.Marks.{Marks}
 use Rattle.nesting.proofs.Laws.{holder_is}
 use native.Mathlib.Omega.{arith}
-use borrow.Author.Rules.{rules}
 use Rattle.nesting.proofs.next_body.Goals as goal
 use Rattle.nesting.proofs.next_body.Goals.{After-may_follow}
 
@@ -20,19 +18,18 @@ told v list m =
 
 pub returns-then-may_follow : goal.returns-then-may_follow
 unfolding next_body
-returns-then-may_follow c list m =
-    sym (first_at _ _ _ c.loop-b-test.true (sym (told (goal.at.returns-then-may_follow c).After-may_follow list m) ∙ c.if-may_follow.true) (c.loop-b.invariant.1 list m))
+returns-then-may_follow c list m = (
+  c.loop-b-test.true,
+  sym (first_at _ _ _ c.loop-b-test.true (sym (told (goal.at.returns-then-may_follow c).After-may_follow list m) ∙ c.if-may_follow.true) (c.loop-b.invariant list m)),
+)
 
 pub loop-b-preserved : goal.loop-b-preserved
 loop-b-preserved c =
-    (search rules, λ list m. fails_step _ _ (c.loop-b.invariant.1 list m) (sym (told (goal.at.loop-b-preserved c).After-may_follow list m) ∙ c.if-may_follow.false))
+    λ list m. fails_step _ _ (c.loop-b.invariant list m) (sym (told (goal.at.loop-b-preserved c).After-may_follow list m) ∙ c.if-may_follow.false)
 
 pub returns : goal.returns
 unfolding next_body
-returns c list m =
-    let l = c.loop-b in
-    let e : l.b ≡ length c.args.holders.now = omega arith in
-    e ∙ sym (first_none _ _ (λ j h. l.invariant.1 list m j (omega arith)))
+returns c list m = first_none _ _ (λ j h. c.loop-b.invariant list m j (omega arith))
 
 pub loop-b-init : goal.loop-b-init
-loop-b-init c = (omega arith, λ list m j h. absurd (omega arith))
+loop-b-init c = λ list m j h. absurd (omega arith)

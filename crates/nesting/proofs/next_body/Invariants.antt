@@ -2,14 +2,10 @@
 use mathlib.Core.Path.{◌≡◌}
 use mathlib.Core.Bool.{false}
 use mathlib.Core.List.{List}
-use Prim.Native.Nat.{ℕ, ◌≤◌, ◌<◌, ◌-◌}
-use lib.ListN.{length}
+use Prim.Native.Nat.{ℕ, ◌<◌}
 use Rattle.paper.specs.Nesting.{may_follow}
 use Rattle.nesting.specs.Marks.{Marks}
 use Rattle.nesting.proofs.next_body.Given as goal
 
 abbrev pub invariant-loop-b : goal.invariant-loop-b
-invariant-loop-b l = (l.b ≤ length l.holders) × ((list : List ℕ) → Marks list l.marks → (j : ℕ) → j < l.b → may_follow l.holders list j ≡ false)
-
-abbrev pub decreases-loop-b : goal.decreases-loop-b
-decreases-loop-b l = length l.holders - l.b
+invariant-loop-b l = (list : List ℕ) → Marks list l.marks → (j : ℕ) → j < l.b → may_follow l.holders list j ≡ false

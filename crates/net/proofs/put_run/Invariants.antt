@@ -1,18 +1,12 @@
 -- `net::put_run` meets its contract. The invariant: the numbers of the first r corners are put, and the rows of the face are as they were taken.
-use mathlib.Core.Path.{◌≡◌, ◌∙◌, sym}
-use Prim.Native.Nat.{ℕ, ◌+◌, ◌-◌, ◌≤◌, ◌<◌}
-use native.Mathlib.Omega.{arith}
-use borrow.Author.Rules.{rules}
+use mathlib.Core.Path.{◌≡◌}
+use Prim.Native.Nat.{ℕ, ◌+◌}
 use mathlib.Core.List.{List}
 use lib.ListN.{length}
 use lib.IntN.{ℤ}
-use Rattle.paper.specs.Scan.{iterate}
-use Rattle.paper.specs.Mesh.{most_sides}
-use Rattle.walk.specs.Table.{to_next, entry}
-use Rattle.net.specs.Drawn.{drawn, Drawn}
+use Rattle.net.specs.Drawn.{drawn}
 use Rattle.net.specs.stencil.Taken.{Quiet, FaceTaken}
 use Rattle.net.specs.Put.{RunPut}
-use Rattle.net.proofs.CornerRuns.{face_held, face_kept, run_place, lane_has, ready, run_none, run_more}
 use Rattle.net.proofs.put_run.Given as goal
 
 -- what the lent spaces hold
@@ -24,7 +18,4 @@ pub record Kept (count : ℕ) (table : List ℕ) (points : List ℤ) (c run : �
 
 abbrev pub invariant-loop-r : goal.invariant-loop-r
 invariant-loop-r l =
-    (l.r ≤ l.run) × Kept l.count l.table l.points l.c l.run l.stencil l.lanes × RunPut (drawn l.count l.table l.points) l.c l.r l.at l.initial.out l.out
-
-abbrev pub decreases-loop-r : goal.decreases-loop-r
-decreases-loop-r l = l.run - l.r
+    Kept l.count l.table l.points l.c l.run l.stencil l.lanes × RunPut (drawn l.count l.table l.points) l.c l.r l.at l.initial.out l.out

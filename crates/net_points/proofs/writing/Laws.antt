@@ -2,14 +2,16 @@
 use mathlib.Core.Path.{◌≡◌, refl, sym, ap, ◌∙◌, subst}
 use mathlib.Core.Bool.{Bool, true, false}
 use mathlib.Core.Logic.{◌⊎◌, inl, inr, ⊎_elim}
-use mathlib.Core.List.{List}
+use mathlib.Core.List.{List, ◌++◌}
 use Prim.Native.Nat.{ℕ, zero, suc, ◌+◌, ◌-◌, ◌*◌, ◌/◌, ◌%◌, ◌^◌, ◌≤◌, ◌<◌}
 use native.Mathlib.Nat.{mul-le-mul_right}
 use native.Mathlib.Omega.{arith}
 use lib.Dec.{ltb, eqb}
-use borrow.Author.Tests.{ltb-true, ltb-false, eqb-true, eqb-false, eq-eqb, ne_eqb}
-use lib.ListN.{length, get_or, set, length-set}
-use lib.Seq.{get_or-set_same, get_or-set_other}
+use borrow.Author.Tests.{ltb-true, ltb-false, eq-eqb, ne_eqb}
+use lib.ListN.{length, get_or, take, drop, length-append, length-take, length-drop}
+use lib.Seq.{get_or-drop}
+use borrow.Rule.Slice.PartMut.{put_mid}
+use Rattle.std.proofs.lemmas.List.{get_or-append_right, get_or_append_left, get_or-take}
 use lib.IntN.{ℤ, pos, nat_abs, ◌+ℤ◌, ◌*ℤ◌}
 use Rattle.paper.specs.Numbers.{round}
 use Rattle.paper.specs.Faults.{sound}
@@ -26,7 +28,7 @@ use Rattle.bernstein.proofs.Sum.{bernstein_is}
 use Rattle.bernstein.proofs.Laws.{polynomial_tapers}
 use Rattle.sampling.proofs.Laws.{points_sized, points_sampleable}
 use Rattle.sampling.proofs.Lists.{row_sampleable, row_part}
-use Rattle.net_points.specs.writing.Laid.{Reaches, reversed_of, pick_matrix, turned_of, InTurn, PointPlace}
+use Rattle.net_points.specs.writing.Laid.{Reaches, reversed_of, pick_matrix, turned_of, InTurn}
 
 -- ---- numbers written here and there
 module _ {f : ℕ → ℤ} {S : ℕ → Type 0} where
@@ -43,28 +45,39 @@ module _ {f : ℕ → ℤ} {S : ℕ → Type 0} where
     each = λ t. ⊎_elim (λ y. inl y) (λ y. ⊎_elim (λ x. inl (y ∙ x)) (λ x. inr (y ∙ x)) (p.each t)) (q.each t);
   }
 
--- one number
-pub set_reaches : (f : ℕ → ℤ) (old : List ℤ) (i : ℕ) (x : ℤ) → i < length old → f i ≡ x → Reaches f (λ t. t ≡ i) old (set old i x)
-set_reaches f old i x h e = record {
-  same = length-set old i x;
-  there = λ t q. rw q (get_or-set_same old i x (pos 0) h ∙ sym e);
-  each = λ t. ⊎_elim (λ q. let z : t ≡ i = eqb-true t i q in inl (rw z (get_or-set_same old i x (pos 0) h ∙ sym e)))
-      (λ q. inr (get_or-set_other old i t x (pos 0) (eqb-false t i q))) (ways (eqb t i));
-}
+-- numbers that are put in the place of as many
+module _ (f : ℕ → ℤ) (old part : List ℤ) (at k : ℕ) (long : length part ≡ k) (room : at + k ≤ length old)
+    (values : (j : ℕ) → j < k → get_or part j (pos 0) ≡ f (at + j)) where
+  abbrev put : List ℤ
+  put = put_mid at k old part
 
-pub three_reaches : (f : ℕ → ℤ) (old : List ℤ) (at : ℕ) (x y z : ℤ) → at + 3 ≤ length old → f at ≡ x → f (at + 1) ≡ y → f (at + 2) ≡ z
-    → Reaches f (PointPlace at) old (set (set (set old at x) (at + 1) y) (at + 2) z)
-three_reaches f old at x y z h p q r =
-    reaches_part
-    (reaches_more (reaches_more (set_reaches f old at x (omega arith) p) (set_reaches f (set old at x) (at + 1) y (simp length-set (omega arith)) q))
-    (set_reaches f (set (set old at x) (at + 1) y) (at + 2) z (simp length-set (omega arith)) r))
-    (λ t s. here t s.0 s.1 s.2)
-  where
-    here : (t axis : ℕ) → axis < 3 → t ≡ at + axis → ((t ≡ at) ⊎ (t ≡ at + 1)) ⊎ (t ≡ at + 2)
-    here t zero a e = inl (inl (omega arith))
-    here t (suc zero) a e = inl (inr e)
-    here t (suc (suc zero)) a e = inr e
-    here t (suc (suc (suc n))) a e = absurd (omega arith)
+  put_inside : (t : ℕ) → at ≤ t → t < at + k → get_or put t (pos 0) ≡ f t
+  put_inside t a b =
+      get_or-append_right (take at old) (part ++ drop k (drop at old)) at t (pos 0) (simp length-take (omega arith)) a
+      ∙ get_or_append_left part (drop k (drop at old)) (pos 0) (t - at) (omega arith)
+      ∙ values (t - at) (omega arith) ∙ ap f (let z : at + (t - at) ≡ t = omega arith in z)
+
+  put_before : (t : ℕ) → t < at → get_or put t (pos 0) ≡ get_or old t (pos 0)
+  put_before t h =
+      get_or_append_left (take at old) (part ++ drop k (drop at old)) (pos 0) t (simp length-take (omega arith)) ∙ get_or-take at old t (pos 0) h
+
+  put_after : (t : ℕ) → at + k ≤ t → get_or put t (pos 0) ≡ get_or old t (pos 0)
+  put_after t h =
+      get_or-append_right (take at old) (part ++ drop k (drop at old)) at t (pos 0) (simp length-take (omega arith)) (omega arith)
+      ∙ get_or-append_right part (drop k (drop at old)) k (t - at) (pos 0) long (omega arith)
+      ∙ get_or-drop k (drop at old) (t - at - k) (pos 0) ∙ get_or-drop at old (k + (t - at - k)) (pos 0)
+      ∙ ap (λ (x : ℕ). get_or old x (pos 0)) (let z : at + (k + (t - at - k)) ≡ t = omega arith in z)
+
+  pub part_reaches : Reaches f (λ t. (at ≤ t) × (t < at + k)) old put
+  part_reaches = record {
+    same = simp (length-append, length-take, length-drop) (omega arith);
+    there = λ t s. put_inside t s.0 s.1;
+    each = λ t.
+        ⊎_elim (λ l. inr (put_before t (ltb-true t at l)))
+        (λ l. ⊎_elim (λ m. inl (put_inside t (ltb-false t at l) (ltb-true t (at + k) m))) (λ m. inr (put_after t (ltb-false t (at + k) m)))
+        (ways (ltb t (at + k))))
+        (ways (ltb t at));
+  }
 
 -- ---- a row
 module _ {e : Vector5} {n first count from : ℕ} {old new : List ℤ} (r : RowPut e n first count from old new) (f : ℕ → ℤ)

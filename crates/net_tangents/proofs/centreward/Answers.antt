@@ -10,12 +10,6 @@ use Rattle.bernstein.proofs.Tapering.{along_tapers, inward_tapers, tapered_sized
 use Rattle.net_tangents.specs.Lanes.{minus_of, centreward_of}
 use Rattle.net_tangents.proofs.centreward.Goals as goal
 
-pub inward-b-requires : goal.inward-b-requires
-inward-b-requires c = tapered_sized c.args.c c.requires
-
-pub along-requires : goal.along-requires
-along-requires c = tapered_sized c.args.c c.requires
-
 pub minus-requires : goal.minus-requires
 minus-requires c = (
   subst (λ (m : Matrix5). AllSized (2 ^ 54) m) (sym c.inward-b.ensures) (tapered_sized (inward_of c.args.c) (inward_tapers c.args.c c.requires)),

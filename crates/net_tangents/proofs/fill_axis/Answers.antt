@@ -3,7 +3,6 @@ use mathlib.Core.Path.{◌≡◌, ap, ◌∙◌}
 use mathlib.Core.List.{List}
 use Prim.Native.Nat.{ℕ, ◌/◌, ◌%◌, ◌^◌}
 use native.Mathlib.Omega.{arith}
-use borrow.Author.Rules.{rules}
 use lib.IntN.{ℤ, pos}
 use Rattle.bernstein.specs.declared.Matrix5.{Matrix5}
 use Rattle.bernstein.specs.Sums.{AllSized, AllTapered, polynomial_of, states_of}
@@ -58,12 +57,6 @@ centreward-requires c = tapers (search)
 
 pub lane_numbers-b-requires : goal.lane_numbers-b-requires
 lane_numbers-b-requires c = rw c.centreward.ensures (centre (search)).tapers
-
-pub overflow_add-lane-2 : goal.overflow_add-lane-2
-overflow_add-lane-2 c = record { fits = omega (arith, c.requires.2) }
-
-pub put_lane-requires-2 : goal.put_lane-requires-2
-put_lane-requires-2 c = (omega (arith, c.requires.3, c.put_lane.auto.table), omega (arith, c.requires.2), search rules)
 
 pub returns : goal.returns
 returns c =

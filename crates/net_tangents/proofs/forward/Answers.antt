@@ -56,9 +56,6 @@ returns c =
     let k2 = row2 (search) in
     simp (to_z-of_z, k0.0, k0.1, k0.2, k0.3, k1.0, k1.1, k1.2, k2.0, k2.1, (row3 (search)).0, f.0, f.1, f.2, f.3, f.4, f.5, f.6)
 
-pub overflow_mul-last : goal.overflow_mul-last
-overflow_mul-last c = simp (to_z-of_z, (row3 (search)).0) (fine (search)).0
-
 pub overflow_add-result : goal.overflow_add-result
 overflow_add-result c = simp (to_z-of_z, (row1 (search)).0, (row2 (search)).0) (fine (search)).1
 

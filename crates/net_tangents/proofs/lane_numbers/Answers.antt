@@ -17,6 +17,3 @@ module _ (t : After-states) where
 
 pub returns : goal.returns
 returns c = (is (search), rw (is (search)) (lane_sizes c.args.c c.requires 0 (lit≤ tt)))
-
-pub forward-requires : goal.forward-requires
-forward-requires c = c.requires

@@ -1,11 +1,8 @@
 -- `put_part` meets its contract: the places of the border's row, by the table at hand or by one of its own, or none.
-use mathlib.Core.Path.{◌≡◌, refl, subst}
+use mathlib.Core.Path.{◌≡◌, refl}
 use Prim.Native.Nat.{ℕ, ◌+◌, ◌*◌}
 use native.Mathlib.Omega.{arith}
-use Rattle.strips.specs.PointRows.{Fills}
 use Rattle.net_tangents.specs.Lanes.{lane_of, Lanes}
-use Rattle.net_tangents.specs.Paired.{part_number}
-use Rattle.strips.proofs.Rowed.{fills_none}
 use Rattle.net_tangents.proofs.Laws.{side_lanes, values_fill}
 use Rattle.net_tangents.proofs.put_part.Goals as goal
 use Rattle.net_tangents.proofs.put_part.Goals.{Start}
@@ -38,8 +35,3 @@ returns-else-n-level c =
     let own = side_lanes c.args.numbers.now c.requires.net.0 c.args.n c.args.side (3 * c.args.side) (3 * c.args.side + 3) _ c.requires.parts.1 c.requires.net.1 (omega arith) (omega arith) c.fill_lanes.ensures (omega (arith, c.fill_lanes.auto.table)) in
     values_fill c.args.numbers.now c.args.n 0 c.args.side c.args.first c.args.count c.args.at c.args.out.now _ c.requires.net.1 (omega (arith, c.requires.parts.3))
     (c.put_places-then-count-gt0.ensures (lane_of c.args.numbers.now c.args.n) 0 own)
-
-pub returns-else-count-gt0 : goal.returns-else-count-gt0
-returns-else-count-gt0 c =
-    subst (λ (x : ℕ). Fills (part_number c.args.numbers.now c.args.side c.args.n 0 c.args.first) c.args.at x c.args.out.now c.args.out.now)
-    (let z : 0 ≡ 6 * c.args.count = omega arith in z) (fills_none _ c.args.at c.args.out.now)

@@ -10,18 +10,11 @@ use Rattle.net_tangents.proofs.Laws.{states_at, places_step}
 use Rattle.net_tangents.proofs.put_places.Goals as goal
 
 pub loop-j-init : goal.loop-j-init
-loop-j-init c = (
-  omega arith,
-  refl,
-  λ F k l. (
-    states_at (rows_at F c.args.lane k) c.args.first (c.args.first + 0) _ (omega arith) (c.first_states.ensures F k l),
-    fills_none _ _ _,
-  ),
-)
-
-pub copy_six-requires : goal.copy_six-requires
-copy_six-requires c =
-    (omega (arith, (c.loop-j.invariant.2 c.requires.row.0.1.polynomials c.requires.row.0.0 c.requires.row.0.1.lanes).0.long), omega (arith, c.loop-j-test.true, c.requires.places.2, c.loop-j.invariant.1))
+loop-j-init c =
+    λ F k l. (
+      states_at (rows_at F c.args.lane k) c.args.first (c.args.first + 0) _ (omega arith) (c.first_states.ensures F k l),
+      fills_none _ _ _,
+    )
 
 pub next_states-requires : goal.next_states-requires
 next_states-requires c =
@@ -29,35 +22,26 @@ next_states-requires c =
     record {
       polynomials = rows_at r.1.polynomials c.args.lane r.0;
       place = c.args.first + c.loop-j.j;
-      few = omega (arith, c.loop-j-test.true, c.requires.places.1);
+      few = omega (arith, c.requires.places.1);
       cubic = lanes_cubic r.1.polynomials c.args.lane r.0 c.args.table.now r.1.lanes;
-      steps = (c.loop-j.invariant.2 c.requires.row.0.1.polynomials c.requires.row.0.0 c.requires.row.0.1.lanes).0;
+      steps = (c.loop-j.invariant r.1.polynomials r.0 r.1.lanes).0;
     }
 
 pub loop-j-preserved : goal.loop-j-preserved
 loop-j-preserved c =
     let l = c.loop-j in
     let lane = c.args.lane in
-    let first = c.args.first in (
-      omega (arith, c.loop-j-test.true),
-      omega (arith, c.copy_six.auto.out, l.invariant.1),
-      λ F k h.
-          let g = rows_at F lane k in
-          let i = l.invariant.2 F k h in (
-            states_at g (first + l.j + 1) (first + (l.j + 1)) _ (omega arith)
-                (c.next_states.ensures g (first + l.j) (lanes_cubic F lane k c.args.table.now h) i.0),
-            places_step g first l.j c.args.at _ l.states c.args.out.now l.out _ i.0 refl i.1 c.copy_six.ensures,
-          ),
+    let first = c.args.first in
+    λ F k h.
+    let g = rows_at F lane k in
+    let i = l.invariant F k h in (
+      states_at g (first + l.j + 1) (first + (l.j + 1)) _ (omega arith)
+          (c.next_states.ensures g (first + l.j) (lanes_cubic F lane k c.args.table.now h) i.0),
+      places_step g first l.j c.args.at _ l.states c.args.out.now l.out _ i.0 refl i.1 c.copy_six.ensures,
     )
 
 pub returns : goal.returns
 returns c =
     λ F k l.
     subst (λ (x : ℕ). Fills (value_number (rows_at F c.args.lane k) c.args.first) c.args.at (6 * x) c.args.out.now c.loop-j.out)
-    (omega (arith, c.loop-j.invariant.0)) (c.loop-j.invariant.2 F k l).1
-
-pub slice_bounds-copy_six-end : goal.slice_bounds-copy_six-end
-slice_bounds-copy_six-end c = omega (arith, (c.loop-j.invariant.2 c.requires.row.0.1.polynomials c.requires.row.0.0 c.requires.row.0.1.lanes).0.long)
-
-pub slice_bounds-next_states-end : goal.slice_bounds-next_states-end
-slice_bounds-next_states-end c = omega (arith, (c.loop-j.invariant.2 c.requires.row.0.1.polynomials c.requires.row.0.0 c.requires.row.0.1.lanes).0.long)
+    (omega arith) (c.loop-j.invariant F k l).1

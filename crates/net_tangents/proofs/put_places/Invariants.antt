@@ -1,7 +1,5 @@
 -- `put_places` meets its contract: before each turn the tangents at the places before are written, and the numbers are those of this place.
-use mathlib.Core.Path.{◌≡◌}
-use Prim.Native.Nat.{ℕ, ◌+◌, ◌-◌, ◌*◌, ◌≤◌}
-use lib.ListN.{length}
+use Prim.Native.Nat.{ℕ, ◌+◌, ◌*◌}
 use Rattle.bernstein.specs.declared.Matrix5.{Matrix5}
 use Rattle.strips.specs.PointRows.{Fills}
 use Rattle.net_tangents.specs.Lanes.{Lanes, SixStates, rows_at, value_number}
@@ -9,9 +7,5 @@ use Rattle.net_tangents.proofs.put_places.Given as goal
 
 abbrev pub invariant-loop-j : goal.invariant-loop-j
 invariant-loop-j l =
-    (l.j ≤ l.count) × (length l.out ≡ length l.initial.out)
-    × ((F : ℕ → Matrix5) (k : ℕ) → Lanes F l.lane (l.lane + 6) k l.table
-    → SixStates (rows_at F l.lane k) (l.first + l.j) l.states × Fills (value_number (rows_at F l.lane k) l.first) l.at (6 * l.j) l.initial.out l.out)
-
-abbrev pub decreases-loop-j : goal.decreases-loop-j
-decreases-loop-j l = l.count - l.j
+    (F : ℕ → Matrix5) (k : ℕ) → Lanes F l.lane (l.lane + 6) k l.table
+    → SixStates (rows_at F l.lane k) (l.first + l.j) l.states × Fills (value_number (rows_at F l.lane k) l.first) l.at (6 * l.j) l.initial.out l.out

@@ -1,8 +1,7 @@
 -- `put_rings` meets its contract: before each turn the rings before are written, and the centre comes last.
 use mathlib.Core.Path.{◌≡◌}
 use mathlib.Core.List.{List}
-use Prim.Native.Nat.{ℕ, ◌+◌, ◌-◌, ◌*◌, ◌≤◌}
-use lib.ListN.{length}
+use Prim.Native.Nat.{ℕ, ◌+◌, ◌-◌, ◌*◌}
 use lib.IntN.{ℤ}
 use Rattle.bernstein.specs.declared.Matrix5.{Matrix5}
 use Rattle.strips.specs.PointRows.{FilledTo}
@@ -12,9 +11,6 @@ use Rattle.net_tangents.proofs.put_rings.Given as goal
 
 abbrev pub invariant-loop-k : goal.invariant-loop-k
 invariant-loop-k l =
-    (l.k + 1 ≤ l.n) × (length l.out ≡ length l.initial.out) × (l.to ≡ l.at + 6 * (2 * (l.k * (2 * l.n - l.k - 1)))) × (length l.table ≡ length l.initial.table)
+    (l.to ≡ l.at + 6 * (2 * (l.k * (2 * l.n - l.k - 1))))
     × ((F : ℕ → Matrix5) → Lanes F 0 24 0 l.initial.table → Lanes F 0 24 l.k l.table)
     × ((numbers : List ℤ) → Lanes (lane_of numbers l.n) 0 24 0 l.initial.table → (f : ℕ → ℤ) (old : List ℤ) → FilledTo f old l.at l.initial.out → RingPairs numbers l.n l.at f → FilledTo f old l.to l.out)
-
-abbrev pub decreases-loop-k : goal.decreases-loop-k
-decreases-loop-k l = l.n - l.k

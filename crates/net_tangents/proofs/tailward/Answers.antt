@@ -11,9 +11,6 @@ use Rattle.bernstein.proofs.Tapering.{along_tapers, tapered_sized}
 use Rattle.net_tangents.specs.Lanes.{minus_of, zero_matrix, tailward_of}
 use Rattle.net_tangents.proofs.tailward.Goals as goal
 
-pub along-a-requires : goal.along-a-requires
-along-a-requires c = tapered_sized c.args.c c.requires
-
 pub minus-requires : goal.minus-requires
 minus-requires c = (
   search rules,

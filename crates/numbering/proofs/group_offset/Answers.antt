@@ -1,23 +1,13 @@
 -- `group_offset` meets its contract, group by group.
 use mathlib.Core.Path.{◌≡◌, ap, ◌∙◌}
 use native.Mathlib.Omega.{arith}
-use Rattle.owners.specs.Corners.{Place, Wide}
 use Rattle.numbering.specs.Meshed.{group_start}
-use Rattle.numbering.proofs.Lent.{place_of_lem, wide_of, given_corner, here_of, offset0, offset1, offset2, offset3, offset4, offset5}
+use Rattle.numbering.proofs.Lent.{here_of, offset0, offset1, offset2, offset3, offset4, offset5}
 use Rattle.numbering.proofs.group_offset.Goals as goal
 use Rattle.numbering.proofs.group_offset.Goals.{Start}
 
-place : (s : Start) → Place s.args.table.now s.args.c
-place s = place_of_lem s.requires.0 s.args.c s.requires.1
-
-wide : (s : Start) → Wide s.args.table.now s.args.levels.now s.args.c
-wide s = wide_of s.requires.0 s.args.c s.requires.1
-
 pub returns-then-g-eq0 : goal.returns-then-g-eq0
 returns-then-g-eq0 c = (omega arith, λ M o. ap (group_start M _ _) c.if-g-eq0.true ∙ offset0 M o _ c.requires.1)
-
-pub own_vertex-a-requires : goal.own_vertex-a-requires
-own_vertex-a-requires c = (c.requires.0.is.lows, given_corner c.requires.0 c.args.c c.requires.1)
 
 pub returns-then-g-eq1 : goal.returns-then-g-eq1
 returns-then-g-eq1 c =
@@ -54,15 +44,3 @@ returns c =
           (c.own_edge-b.ensures.1 M h) _ (c.own_face-d.ensures.1 M h) _ (c.segments_at-m.ensures.2 M h) _
           (c.segments_at-n.ensures.2 M h),
     )
-
-pub own_edge-b-requires : goal.own_edge-b-requires
-own_edge-b-requires c = place search
-
-pub own_face-d-requires : goal.own_face-d-requires
-own_face-d-requires c = place search
-
-pub segments_at-m-requires : goal.segments_at-m-requires
-segments_at-m-requires c = (wide (search), omega arith)
-
-pub segments_at-n-requires : goal.segments_at-n-requires
-segments_at-n-requires c = (wide (search), omega arith)

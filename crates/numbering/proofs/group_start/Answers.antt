@@ -1,11 +1,8 @@
 -- `group_start` meets its contract.
 use native.Mathlib.Omega.{arith}
 use mathlib.Core.Path.{refl}
-use Rattle.numbering.proofs.Lent.{given_of, start_few, group_at}
+use Rattle.numbering.proofs.Lent.{start_few, group_at}
 use Rattle.numbering.proofs.group_start.Goals as goal
-
-pub group_offset-a-requires : goal.group_offset-a-requires
-group_offset-a-requires c = (given_of c.requires.0, c.requires.1, c.requires.2)
 
 pub overflow_add-result : goal.overflow_add-result
 overflow_add-result c = omega (arith, start_few c.requires.0.mesh c.requires.0.is c.args.c c.requires.1, c.group_offset-a.ensures.0)

@@ -11,18 +11,3 @@ few l = level_bounds l.requires.0 l.args.c l.requires.1 _ l.level_at-n.ensures
 pub returns : goal.returns
 returns c =
     (omega (arith, few (search)), λ M t. points_rest M t c.args.c c.requires.1 _ _ (c.group_offset-a.ensures.1 M t) c.level_at-n.ensures)
-
-pub overflow_sub-result : goal.overflow_sub-result
-overflow_sub-result c = omega (arith, few (search))
-
-pub overflow_mul-result : goal.overflow_mul-result
-overflow_mul-result c = omega (arith, few (search))
-
-pub overflow_mul-result-2 : goal.overflow_mul-result-2
-overflow_mul-result-2 c = omega (arith, few (search))
-
-pub overflow_add-result : goal.overflow_add-result
-overflow_add-result c = omega (arith, few (search))
-
-pub overflow_add-result-2 : goal.overflow_add-result-2
-overflow_add-result-2 c = omega (arith, few (search))

@@ -7,7 +7,6 @@ use Rattle.numbering.specs.Meshed.{Of}
 use Rattle.numbering.proofs.triangles_in.Given as goal
 
 abbrev pub invariant-loop-c : goal.invariant-loop-c
-invariant-loop-c l = (l.c ≤ l.count) × (l.sum ≤ 1024 * l.c) × ((M : Mesh) → Of M l.corners l.low l.table l.levels → triangles_before M l.levels (l.first + l.c) ≡ triangles_before M l.levels l.first + l.sum)
-
-abbrev pub decreases-loop-c : goal.decreases-loop-c
-decreases-loop-c l = l.count - l.c
+invariant-loop-c l =
+    (l.sum ≤ 1024 * (l.c - l.first))
+    × ((M : Mesh) → Of M l.tables.corners.now l.tables.low.now l.tables.table.now l.tables.levels.now → triangles_before M l.tables.levels.now l.c ≡ triangles_before M l.tables.levels.now l.first + l.sum)

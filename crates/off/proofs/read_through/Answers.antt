@@ -1,96 +1,87 @@
 -- A refusal writes nothing to the lent lists. Else the own lists are those of the text, and are copied.
-use Rattle.off.proofs.checking.Parts.{within_limits, room_kept, coordinates_fit, sides_fit, corners_fit}
-use Rattle.off.proofs.checking.Parts.{taken, taken_fits, few_pairs, copied_none, copied_all}
 use mathlib.Core.Path.{◌≡◌}
 use mathlib.Core.Bool.{false}
-use Prim.Native.Nat.{ℕ, ◌≤◌}
-use lib.ListN.{length, take}
+use Prim.Native.Nat.{◌*◌, ◌≤◌}
+use lib.ListN.{length}
 use native.Mathlib.Omega.{arith}
+use Rattle.std.proofs.lemmas.Result.{err_from_is_err_and}
+use Rattle.paper.specs.Mesh.{most_corners}
 use Rattle.paper.specs.Faults.{fault4}
-use mathlib.Core.List.{List}
-use lib.IntN.{ℤ}
-use Rattle.paper.specs.declared.Answer.TheVariants.{Done}
-use Rattle.paper.specs.declared.Decoded.{Decoded}
-use Rattle.off.specs.checking.Call.{OwnRoom, TextChecked}
+use Rattle.off.specs.checking.Call.{OwnRoom}
+use Rattle.off.proofs.checking.Parts.{within_limits, room_kept, coordinates_fit, sides_fit, corners_fit, few_pairs}
+use Rattle.off.proofs.checking.Parts.{taken, taken_fits, eights_begin, copied_none, copied_all}
 use Rattle.off.proofs.read_through.Goals as goal
+use Rattle.off.proofs.read_through.Goals.{In_ok-lengths}
 
--- the text was read and checked: what it has is within the limits, and the own lists have room for it, as the lent ones do
-module _ (text : List ℕ) (numbers : List ℤ) (sizes names : List ℕ) (d : Decoded) (e : TextChecked text d numbers sizes names) (done : d.answer ≡ Done)
-    (own : OwnRoom numbers sizes names) (coordinates : List ℤ) (sides corners : List ℕ) (room : OwnRoom coordinates sides corners) where
-  four : fault4 d.coordinates d.sides d.corners ≡ false
-  four = within_limits _ _ _ _ d e done
+pub returns-in_err-lengths : goal.returns-in_err-lengths
+returns-in_err-lengths c =
+    let p = err_from_is_err_and c.from_residual.result c.from_residual.ensures.1 in
+    rw (p.1, p.2) (copied_none _ _ _ _ _ c.in_err-lengths.field-0.0 c.in_err-lengths.ensures)
 
-  fits : (d.coordinates ≤ length numbers)
-      × (d.sides ≤ length sizes)
-      × (d.corners ≤ length names)
-      × (length (take d.coordinates numbers) ≤ length coordinates)
-      × (length (take d.sides sizes) ≤ length sides)
-      × (length (take d.corners names) ≤ length corners)
-  fits = (
-    coordinates_fit d _ _ _ own four,
-    sides_fit d _ _ _ own four,
-    corners_fit d _ _ _ own four,
-    taken_fits _ _ coordinates (coordinates_fit d _ _ _ own four) (coordinates_fit d _ _ _ room four),
-    taken_fits _ _ sides (sides_fit d _ _ _ own four) (sides_fit d _ _ _ room four),
-    taken_fits _ _ corners (corners_fit d _ _ _ own four) (corners_fit d _ _ _ room four),
-  )
+-- the text was read and checked: what it has is within the limits, and the own lists have the room that they had
+four : (t : In_ok-lengths) → fault4 t.in_ok-lengths.lengths.coordinates t.in_ok-lengths.lengths.sides t.in_ok-lengths.lengths.corners ≡ false
+four t = within_limits _ _ _ _ t.in_ok-lengths.lengths t.in_ok-lengths.ensures
 
-pub returns-in-Refused : goal.returns-in-Refused
-returns-in-Refused c = copied_none _ _ _ _ _ _ c.read_checked-d.ensures _ _ c.in-Refused.is _ c.refused.ensures
+own : (t : In_ok-lengths) → OwnRoom t.read_checked.new.coordinates t.read_checked.new.sides t.read_checked.new.corners
+own t = room_kept _ _ _ _ _ _ t.requires.1 t.read_checked.auto.coordinates t.read_checked.auto.sides t.read_checked.auto.corners
 
-pub slice_bounds-copy_words-end : goal.slice_bounds-copy_words-end
-slice_bounds-copy_words-end c =
-    let own = room_kept _ _ _ _ _ _ c.requires.1 c.read_checked-d.auto.coordinates c.read_checked-d.auto.sides c.read_checked-d.auto.corners in
-    (fits _ _ _ _ _ c.read_checked-d.ensures c.in_default.is own _ _ _ c.requires.2).0
+numbers : (t : In_ok-lengths) → t.in_ok-lengths.lengths.coordinates ≤ length t.read_checked.new.coordinates
+numbers t = coordinates_fit t.in_ok-lengths.lengths _ _ _ (own t) (four t)
 
-pub slice_bounds-copy_words-end-2 : goal.slice_bounds-copy_words-end-2
-slice_bounds-copy_words-end-2 c =
-    let own = room_kept _ _ _ _ _ _ c.requires.1 c.read_checked-d.auto.coordinates c.read_checked-d.auto.sides c.read_checked-d.auto.corners in
-    taken _ _ (fits _ _ _ _ _ c.read_checked-d.ensures c.in_default.is own _ _ _ c.requires.2).0
+sizes : (t : In_ok-lengths) → t.in_ok-lengths.lengths.sides ≤ length t.read_checked.new.sides
+sizes t = sides_fit t.in_ok-lengths.lengths _ _ _ (own t) (four t)
 
-pub copy_words-requires : goal.copy_words-requires
-copy_words-requires c =
-    let own = room_kept _ _ _ _ _ _ c.requires.1 c.read_checked-d.auto.coordinates c.read_checked-d.auto.sides c.read_checked-d.auto.corners in
-    (fits _ _ _ _ _ c.read_checked-d.ensures c.in_default.is own _ _ _ c.requires.2).3
+names : (t : In_ok-lengths) → t.in_ok-lengths.lengths.corners ≤ length t.read_checked.new.corners
+names t = corners_fit t.in_ok-lengths.lengths _ _ _ (own t) (four t)
 
-pub slice_bounds-copy_bytes-end : goal.slice_bounds-copy_bytes-end
-slice_bounds-copy_bytes-end c =
-    let own = room_kept _ _ _ _ _ _ c.requires.1 c.read_checked-d.auto.coordinates c.read_checked-d.auto.sides c.read_checked-d.auto.corners in
-    (fits _ _ _ _ _ c.read_checked-d.ensures c.in_default.is own _ _ _ c.requires.2).1
+few : (t : In_ok-lengths) → t.in_ok-lengths.lengths.corners ≤ most_corners
+few t = few_pairs _ _ _ _ t.in_ok-lengths.lengths t.in_ok-lengths.ensures
 
-pub slice_bounds-copy_bytes-end-2 : goal.slice_bounds-copy_bytes-end-2
-slice_bounds-copy_bytes-end-2 c =
-    let own = room_kept _ _ _ _ _ _ c.requires.1 c.read_checked-d.auto.coordinates c.read_checked-d.auto.sides c.read_checked-d.auto.corners in
-    taken _ _ (fits _ _ _ _ _ c.read_checked-d.ensures c.in_default.is own _ _ _ c.requires.2).1
+pub slice_bounds-copy-end : goal.slice_bounds-copy-end
+slice_bounds-copy-end c = numbers c
 
-pub copy_bytes-requires : goal.copy_bytes-requires
-copy_bytes-requires c =
-    let own = room_kept _ _ _ _ _ _ c.requires.1 c.read_checked-d.auto.coordinates c.read_checked-d.auto.sides c.read_checked-d.auto.corners in
-    (fits _ _ _ _ _ c.read_checked-d.ensures c.in_default.is own _ _ _ c.requires.2).4
+pub slice_bounds-copy-end-2 : goal.slice_bounds-copy-end-2
+slice_bounds-copy-end-2 c = taken _ _ (numbers (goal.at.slice_bounds-copy-end-2 c).In_ok-lengths)
 
-pub slice_bounds-copy_halves-end : goal.slice_bounds-copy_halves-end
-slice_bounds-copy_halves-end c =
-    let own = room_kept _ _ _ _ _ _ c.requires.1 c.read_checked-d.auto.coordinates c.read_checked-d.auto.sides c.read_checked-d.auto.corners in
-    (fits _ _ _ _ _ c.read_checked-d.ensures c.in_default.is own _ _ _ c.requires.2).2
+pub copy-requires : goal.copy-requires
+copy-requires c =
+    let t = (goal.at.copy-requires c).In_ok-lengths in
+    taken_fits _ _ c.args.coordinates.now (numbers t) (coordinates_fit t.in_ok-lengths.lengths _ _ _ c.requires.2 (four t))
 
-pub slice_bounds-copy_halves-end-2 : goal.slice_bounds-copy_halves-end-2
-slice_bounds-copy_halves-end-2 c =
-    let own = room_kept _ _ _ _ _ _ c.requires.1 c.read_checked-d.auto.coordinates c.read_checked-d.auto.sides c.read_checked-d.auto.corners in
-    taken _ _ (fits _ _ _ _ _ c.read_checked-d.ensures c.in_default.is own _ _ _ c.requires.2).2
+pub slice_bounds-copy-end-3 : goal.slice_bounds-copy-end-3
+slice_bounds-copy-end-3 c = sizes (goal.at.slice_bounds-copy-end-3 c).In_ok-lengths
 
-pub copy_halves-requires : goal.copy_halves-requires
-copy_halves-requires c =
-    let own = room_kept _ _ _ _ _ _ c.requires.1 c.read_checked-d.auto.coordinates c.read_checked-d.auto.sides c.read_checked-d.auto.corners in
-    (fits _ _ _ _ _ c.read_checked-d.ensures c.in_default.is own _ _ _ c.requires.2).5
+pub slice_bounds-copy-end-4 : goal.slice_bounds-copy-end-4
+slice_bounds-copy-end-4 c = taken _ _ (sizes (goal.at.slice_bounds-copy-end-4 c).In_ok-lengths)
+
+pub copy-requires-2 : goal.copy-requires-2
+copy-requires-2 c =
+    let t = (goal.at.copy-requires-2 c).In_ok-lengths in
+    taken_fits _ _ c.args.sides.now (sizes t) (sides_fit t.in_ok-lengths.lengths _ _ _ c.requires.2 (four t))
+
+pub slice_bounds-copy-end-5 : goal.slice_bounds-copy-end-5
+slice_bounds-copy-end-5 c = names (goal.at.slice_bounds-copy-end-5 c).In_ok-lengths
+
+pub slice_bounds-copy-end-6 : goal.slice_bounds-copy-end-6
+slice_bounds-copy-end-6 c = taken _ _ (names (goal.at.slice_bounds-copy-end-6 c).In_ok-lengths)
+
+pub copy-requires-3 : goal.copy-requires-3
+copy-requires-3 c =
+    let t = (goal.at.copy-requires-3 c).In_ok-lengths in
+    taken_fits _ _ c.args.corners.now (names t) (corners_fit t.in_ok-lengths.lengths _ _ _ c.requires.2 (four t))
 
 pub overflow_mul-pairs : goal.overflow_mul-pairs
-overflow_mul-pairs c = omega (arith, few_pairs _ _ _ _ c.read_checked-d.result c.read_checked-d.ensures c.in_default.is)
+overflow_mul-pairs c = record { fits = omega (arith, few (goal.at.overflow_mul-pairs c).In_ok-lengths) }
 
-pub fill_plain-requires : goal.fill_plain-requires
-fill_plain-requires c = omega (arith, few_pairs _ _ _ _ c.read_checked-d.result c.read_checked-d.ensures c.in_default.is, c.requires.3)
+pub slice_bounds-fill-end : goal.slice_bounds-fill-end
+slice_bounds-fill-end c = omega (arith, few (goal.at.slice_bounds-fill-end c).In_ok-lengths, c.requires.3)
+
+pub slice_bounds-fill-end-2 : goal.slice_bounds-fill-end-2
+slice_bounds-fill-end-2 c = taken _ _ (omega (arith, few (goal.at.slice_bounds-fill-end-2 c).In_ok-lengths, c.requires.3))
 
 pub returns : goal.returns
 returns c =
-    let own = room_kept _ _ _ _ _ _ c.requires.1 c.read_checked-d.auto.coordinates c.read_checked-d.auto.sides c.read_checked-d.auto.corners in
-    copied_all _ _ _ _ _ c.read_checked-d.result c.read_checked-d.ensures c.in_default.is own _ c.copy_words.ensures c.copy_bytes.ensures
-    c.copy_halves.ensures c.fill_plain.ensures
+    let t = (goal.at.returns c).In_ok-lengths in
+    let pairs : 2 * c.in_ok-lengths.lengths.corners ≤ length c.args.sharpness.now = omega (arith, few t, c.requires.3) in
+    copied_all _ _ _ _ _ c.in_ok-lengths.lengths c.in_ok-lengths.ensures (own t) _ c.copy.ensures c.copy-2.ensures c.copy-3.ensures
+    (eights_begin (2 * c.in_ok-lengths.lengths.corners) c.args.sharpness.now c.fill.new.self pairs (c.fill.ensures.after (λ y e. e)))

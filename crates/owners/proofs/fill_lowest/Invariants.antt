@@ -1,12 +1,8 @@
 -- `fill_lowest` meets its contract: from the last corner down to c, each vertex has its lowest.
-use mathlib.Core.Path.{◌≡◌}
 use Prim.Native.Nat.{ℕ, ◌<◌, ◌≤◌}
 use lib.ListN.{length}
 use Rattle.owners.proofs.Walked.{Low}
 use Rattle.owners.proofs.fill_lowest.Given as goal
 
 abbrev pub invariant-loop-c : goal.invariant-loop-c
-invariant-loop-c l = (l.c ≤ length l.corners) × (length l.low ≡ length l.initial.low) × ((e : ℕ) → l.c ≤ e → e < length l.corners → Low l.corners l.low l.c e)
-
-abbrev pub decreases-loop-c : goal.decreases-loop-c
-decreases-loop-c l = l.c
+invariant-loop-c l = (e : ℕ) → l.c ≤ e → e < length l.corners → Low l.corners l.low l.c e

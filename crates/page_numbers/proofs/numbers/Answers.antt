@@ -1,17 +1,7 @@
--- `page_numbers::numbers` meets its contract: the numbers before `i` are written.
-use Rattle.mesh.proofs.Fills.{filled_none, filled_step}
-use Rattle.page_numbers.proofs.Laws.{page_numbers}
-use native.Mathlib.Omega.{arith}
-use borrow.Author.Rules.{rules}
+-- `page_numbers::numbers` meets its contract: the two lists stand after the first three numbers.
+use Rattle.std.proofs.Common.{refl, [], ◌∷◌}
+use Rattle.page_numbers.proofs.Laws.{parts_written}
 use Rattle.page_numbers.proofs.numbers.Goals as goal
 
 pub returns : goal.returns
-returns c =
-    let l = c.loop-i in
-    page_numbers c.args.page c.requires.0 c.requires.1 l.i l.new (omega arith) l.invariant.1
-
-pub loop-i-init : goal.loop-i-init
-loop-i-init c = search (rules, filled_none)
-
-pub loop-i-preserved : goal.loop-i-preserved
-loop-i-preserved c = search (rules, filled_step)
+returns c = parts_written c.args.page _ _ (0 ∷ 0 ∷ 0 ∷ 0 ∷ []) c.requires.0 refl c.copy_from_slice.ensures.after c.copy_from_slice-2.ensures.after

@@ -7,18 +7,17 @@ use Rattle.page_text.proofs.Joins.{join_none, join_next}
 use Rattle.page_text.proofs.put_refusals.Goals as goal
 
 pub loop-l-init : goal.loop-l-init
-loop-l-init c = (omega arith, refl, put_same (join_none _) (put_none _ _))
+loop-l-init c = (refl, put_same (join_none _) (put_none _ _))
 
 pub loop-l-preserved : goal.loop-l-preserved
 loop-l-preserved c =
     let numbers = c.args.numbers.now in (
-      omega arith,
-      c.put_refused-at.auto.lines ∙ c.loop-l.invariant.1,
-      put_same (join_next (refusals_line numbers) c.loop-l.l) (put_then c.loop-l.invariant.1 c.loop-l.invariant.2 c.put_refused-at.ensures),
+      c.put_refused-at.auto.lines ∙ c.loop-l.invariant.0,
+      put_same (join_next (refusals_line numbers) c.loop-l.l) (put_then c.loop-l.invariant.0 c.loop-l.invariant.1 c.put_refused-at.ensures),
     )
 
 pub returns : goal.returns
 returns c =
     let l = c.loop-l in
     let q : l.l ≡ 13 = omega arith in
-    rw q at l.invariant.2
+    rw q at l.invariant.1

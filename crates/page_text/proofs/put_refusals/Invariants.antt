@@ -1,13 +1,9 @@
 -- After l turns the lines of the first l numbers were put.
 use mathlib.Core.Path.{◌≡◌}
-use Prim.Native.Nat.{◌≤◌, ◌-◌}
 use lib.ListN.{length}
 use Rattle.streams.specs.text.Text.{Put}
 use Rattle.page_text.specs.Lines.{texts_below, refusals_line}
 use Rattle.page_text.proofs.put_refusals.Given as goal
 
 abbrev pub invariant-loop-l : goal.invariant-loop-l
-invariant-loop-l l = (l.l ≤ 13) × (length l.lines ≡ length l.initial.lines) × Put l.initial.lines l.from (texts_below (refusals_line l.numbers) l.l) l.lines l.at
-
-abbrev pub decreases-loop-l : goal.decreases-loop-l
-decreases-loop-l l = 13 - l.l
+invariant-loop-l l = (length l.lines ≡ length l.initial.lines) × Put l.initial.lines l.from (texts_below (refusals_line l.numbers) l.l) l.lines l.at

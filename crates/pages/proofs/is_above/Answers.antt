@@ -1,25 +1,19 @@
--- `pages::is_above` meets its contract, number by number.
-use mathlib.Core.Path.{sym, ◌∙◌}
-use Rattle.pages.proofs.Checks.{above_meshes, above_corners, above_borders, above_refusals, above_misses}
-use borrow.Author.Rules.{rules}
+-- `pages::is_above` meets its contract: the counts, the refusals, the misses.
+use Rattle.std.proofs.Common.{◌≡◌, sym, ◌∙◌, true, false}
+use Rattle.pages.proofs.Checks.{above_counts, above_refusals, above_misses}
 use Rattle.pages.proofs.is_above.Goals as goal
+use Rattle.pages.proofs.is_above.Goals.{then-some_above, else-some_above}
 
-pub returns-then-page-gt-MOST_ON_PAGE : goal.returns-then-page-gt-MOST_ON_PAGE
-returns-then-page-gt-MOST_ON_PAGE c = above_meshes c.args.page (search rules)
+pub returns-then-some_above-2 : goal.returns-then-some_above-2
+returns-then-some_above-2 c = c.if-some_above-2.true ∙ elim c.if-some_above.branch [
+  | then-some_above w ↦ above_counts c.args.page (sym c.some_above.ensures ∙ w.if-some_above.true)
+  | else-some_above w ↦ above_refusals c.args.page (sym c.some_above.ensures ∙ w.if-some_above.false)
+      (sym w.some_above-else-some_above.ensures ∙ sym w.value-is ∙ c.if-some_above-2.true)
+]
 
-pub returns-then-page-gt-MOST_ON_PAGE-2 : goal.returns-then-page-gt-MOST_ON_PAGE-2
-returns-then-page-gt-MOST_ON_PAGE-2 c =
-    above_corners c.args.page (search rules) (search rules)
-
-pub returns-then-some_above : goal.returns-then-some_above
-returns-then-some_above c =
-    above_refusals c.args.page (search rules) (search
-    rules) (search rules) (sym c.if-some_above.true ∙ c.some_above.ensures)
-
-pub returns : goal.returns
-returns c =
-    c.some_above-2.ensures
-    ∙ above_misses c.args.page (search rules) (search rules) (search rules) (sym c.if-some_above.false ∙ c.some_above.ensures)
-
-pub returns-then-page-gt-MOST_ON_PAGE-3 : goal.returns-then-page-gt-MOST_ON_PAGE-3
-returns-then-page-gt-MOST_ON_PAGE-3 c = search (rules, above_borders)
+pub returns-else-some_above-2 : goal.returns-else-some_above-2
+returns-else-some_above-2 c = c.some_above-else-some_above-2.ensures ∙ elim c.if-some_above.branch [
+  | then-some_above w ↦ absurd (let q : false ≡ true = sym c.if-some_above-2.false ∙ w.value-is ∙ w.if-some_above.true in cc)
+  | else-some_above w ↦ above_misses c.args.page (sym c.some_above.ensures ∙ w.if-some_above.false)
+      (sym w.some_above-else-some_above.ensures ∙ sym w.value-is ∙ c.if-some_above-2.false)
+]

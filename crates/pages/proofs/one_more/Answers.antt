@@ -1,25 +1,19 @@
--- `pages::one_more` meets its contract: the lines before `l` are counted.
-use Prim.Native.Nat.{ℕ, ◌+◌}
-use mathlib.Core.Path.{ap}
-use lib.ListN.{get_or, replicate}
-use Rattle.paper.specs.Report.{lines}
-use Rattle.mesh.proofs.Fills.{filled_none, filled_step, filled_whole}
-use native.Mathlib.Omega.{arith}
-use borrow.Author.Rules.{rules}
+-- `pages::one_more` meets its contract, line by line: code and definition have the same numbers.
+use Rattle.std.proofs.Common.{◌≡◌, refl, ap, ◌∙◌, ℕ, ◌+◌, List, get_or, rules}
+use Rattle.std.specs.Int.{from_bool}
+use lib.Dec.{eqb}
+use borrow.Author.Tests.{tests}
+use Rattle.paper.specs.Report.{line_numbers}
+use Rattle.pages.specs.declared.TheConstants.{LINE_NUMBERS}
+use Rattle.pages.proofs.Lists.{made_whole, one_where}
 use Rattle.pages.proofs.one_more.Goals as goal
 
-pub overflow_add-new : goal.overflow_add-new
-overflow_add-new c = omega (arith, c.requires c.loop-l.l, c.under-more.ensures.1)
-
-pub loop-l-preserved : goal.loop-l-preserved
-loop-l-preserved c = (
-  search rules,
-  filled_step _ (replicate lines 0) c.loop-l.l c.loop-l.new _ 0 (search rules) c.loop-l.invariant.1
-      (ap (λ (n : ℕ). get_or c.args.old c.loop-l.l 0 + n) c.under-more.ensures.0),
-)
-
 pub returns : goal.returns
-returns c = let l = c.loop-l in filled_whole _ _ l.new l.l (omega arith) l.invariant.1
-
-pub loop-l-init : goal.loop-l-init
-loop-l-init c = search (rules, filled_none)
+returns c =
+    made_whole _ _ _ (λ i y q k.
+    let counted : y ≡ get_or c.args.old i 0 + from_bool (eqb (get_or LINE_NUMBERS i 0) c.args.number) = search (rules, tests) in
+    let numbers : ◌≡◌ {A = List ℕ} LINE_NUMBERS line_numbers = refl in (
+      search (rules, tests),
+      counted ∙ ap (λ (l : List ℕ). get_or c.args.old i 0 + from_bool (eqb (get_or l i 0) c.args.number)) numbers
+          ∙ ap (λ (n : ℕ). get_or c.args.old i 0 + n) (one_where (eqb (get_or line_numbers i 0) c.args.number)),
+    )) c.from_fn.result _ c.from_fn.ensures.items

@@ -1,17 +1,13 @@
--- `pages::some_above` meets its contract: the numbers before `i` are not above 2^40.
-use mathlib.Core.Path.{sym, ◌∙◌}
-use Rattle.pages.proofs.Checks.{some_here, some_later, some_end}
-use native.Mathlib.Omega.{arith}
-use borrow.Author.Rules.{rules}
+-- `pages::some_above` meets its contract: a number is above 2^40 where any is.
+use Rattle.std.proofs.Common.{◌∙◌, rules, ltb}
+use borrow.Author.Tests.{tests}
+use Rattle.std.proofs.lemmas.Iterator.{YieldsList-from_slice}
+use Rattle.std.proofs.lemmas.Iterator.Search.{any_from_yields_List}
+use Rattle.paper.specs.Report.{most_on_page}
+use Rattle.pages.proofs.Checks.{any_above}
 use Rattle.pages.proofs.some_above.Goals as goal
 
-pub returns-then-numbers-i-gt-MOST_ON_PAGE : goal.returns-then-numbers-i-gt-MOST_ON_PAGE
-returns-then-numbers-i-gt-MOST_ON_PAGE c =
-    sym (c.loop-i.invariant.1 ∙ some_here c.args.numbers.now c.loop-i.i (search rules) (search rules))
-
-pub loop-i-preserved : goal.loop-i-preserved
-loop-i-preserved c =
-    (search rules, c.loop-i.invariant.1 ∙ some_later c.args.numbers.now c.loop-i.i (search rules) (search rules))
-
 pub returns : goal.returns
-returns c = let l = c.loop-i in sym (l.invariant.1 ∙ some_end c.args.numbers.now l.i (omega arith))
+returns c =
+    any_from_yields_List (λ n. ltb most_on_page n) _ _ c.any.result c.any.ensures.ran (YieldsList-from_slice c.args.numbers.now cc)
+    (λ x b q k. search (rules, tests)) ∙ any_above c.args.numbers.now

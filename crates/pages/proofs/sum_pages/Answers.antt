@@ -1,9 +1,9 @@
 -- `pages::sum_pages` meets its contract: sums of numbers within 2^40 fit.
-use mathlib.Core.Path.{refl, ◌∙◌}
+use mathlib.Core.Path.{refl}
 use Prim.Native.Nat.{◌+◌, ◌≤◌}
 use Rattle.paper.specs.Report.{merged, most_meshes}
 use Rattle.pages.proofs.Checks.{SmallPage, both_small}
-use Rattle.pages.proofs.Lists.{four_of_lem, page_same}
+use Rattle.pages.proofs.Lists.{page_same}
 use native.Mathlib.Omega.{arith}
 use Rattle.pages.proofs.sum_pages.Goals as goal
 use Rattle.pages.proofs.sum_pages.Goals.{Start}
@@ -18,7 +18,7 @@ sums-refusals-requires c l = let b = small (search) in (b.1.refusals_small l, b.
 pub returns : goal.returns
 unfolding merged
 returns c =
-    page_same _ _ _ _ _ _ _ _ _ _ refl refl refl c.sums-refusals.ensures (c.larger_misses-misses.ensures ∙ four_of_lem c.args.page.misses c.args.other.misses)
+    page_same _ _ _ _ _ _ _ _ _ _ refl refl refl c.sums-refusals.ensures (c.larger_of-misses.ensures)
 
 pub overflow_add-result : goal.overflow_add-result
 overflow_add-result c = omega (arith, small (search))

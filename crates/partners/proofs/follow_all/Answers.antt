@@ -1,12 +1,11 @@
 -- `follow_all` meets its contract: the corners whose lower end is below `u` have their entries.
-use mathlib.Core.Path.{refl, ◌∙◌}
 use native.Mathlib.Omega.{arith}
 use Rattle.partners.proofs.Laws.{below_none}
 use Rattle.partners.proofs.follow_all.Goals as goal
 
 pub loop-u-init : goal.loop-u-init
 loop-u-init c =
-    (below_none _ _ _ _ c.requires.room.0 c.requires.room.1, (λ x l b. absurd (omega arith)), refl, refl, omega arith)
+    (below_none _ _ _ _ c.requires.room.0 c.requires.room.1, λ x l b. absurd (omega arith))
 
 pub follow-requires : goal.follow-requires
 follow-requires c =
@@ -14,25 +13,9 @@ follow-requires c =
     record {
       walk = (c.loop-u-test.true, c.requires.walk);
       table = inv.0;
-      afters = (omega (arith, c.requires.room.2, inv.3), inv.1);
+      afters = (omega (arith, c.requires.room.2), inv.1);
     }
-
-pub loop-u-preserved : goal.loop-u-preserved
-loop-u-preserved c =
-    let inv = c.loop-u.invariant in (
-      c.follow.ensures.0,
-      c.follow.ensures.1,
-      c.follow.auto.table ∙ inv.2,
-      c.follow.auto.afters ∙ inv.3,
-      omega (arith, c.loop-u-test.true),
-    )
 
 pub returns : goal.returns
 returns c x h =
     c.loop-u.invariant.1 x h (omega (arith, c.requires.walk.lows_in x h, c.loop-u-test.false))
-
-pub shape_of-table : goal.shape_of-table
-shape_of-table c = c.loop-u.invariant.2
-
-pub shape_of-afters : goal.shape_of-afters
-shape_of-afters c = c.loop-u.invariant.3

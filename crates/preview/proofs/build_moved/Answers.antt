@@ -9,12 +9,12 @@ use Rattle.preview.proofs.build_moved.Goals as goal
 
 pub slice_bounds-build-end-2 : goal.slice_bounds-build-end-2
 slice_bounds-build-end-2 c =
-    back_length c.args.coordinates.now c.args.to c.args.copy.now _ c.copy_moved.ensures
+    back_length c.args.lists.coordinates.now c.args.to c.args.copy.now _ c.copy_moved.ensures
 
 pub returns : goal.returns
 returns c =
     subst
-    (λ (l : List ℤ). Built (mesh_of l c.args.sides.now c.args.corners.now c.args.sharpness.now) c.args.links.now
+    (λ (l : List ℤ). Built (mesh_of l c.args.lists.sides.now c.args.lists.corners.now c.args.lists.sharpness.now) c.args.links.now
     c.args.range.first c.args.range.count
     c.args.out.now c.build.result c.build.new.out)
-    (moved_back c.args.coordinates.now c.args.to c.args.copy.now c.copy_moved.new.copy c.copy_moved.ensures) c.build.ensures
+    (moved_back c.args.lists.coordinates.now c.args.to c.args.copy.now c.copy_moved.new.copy c.copy_moved.ensures) c.build.ensures

@@ -20,4 +20,4 @@ returns c =
     let y : to_z w32 (of_z w32 m.y) ≡ m.y = search rules in
     let z : to_z w32 (of_z w32 m.z) ≡ m.z = search rules in
     rw (x, y, z)
-    (ap (λ (k : List ℤ). set (set (set k i m.x) (i + 1) m.y) (i + 2) m.z) c.copy_words.ensures ∙ moved_begins l m c.requires.vertex old)
+    (ap (λ (k : List ℤ). set (set (set k i m.x) (i + 1) m.y) (i + 2) m.z) c.copy.ensures ∙ moved_begins l m c.requires.vertex old)

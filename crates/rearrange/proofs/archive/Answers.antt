@@ -1,21 +1,23 @@
 -- `archive` meets its contract: 30 and 31 refuse and nothing was written, or the planes are filled.
 use mathlib.Core.Path.{sym, ap, ◌∙◌}
+use Rattle.std.proofs.lemmas.Result.{err_from_is_err_and}
 use Rattle.paper.specs.Faults.{stated}
 use Rattle.mesh.proofs.Verdicts.{passed}
 use Rattle.rearrange.proofs.laws.Lengths.{thirds, four_times}
 use Rattle.rearrange.proofs.Lengths.{archive_refused, archive_done}
 use Rattle.rearrange.proofs.archive.Goals as goal
 
-pub returns-in-Refused : goal.returns-in-Refused
-returns-in-Refused c =
-    archive_refused c.args.numbers.now c.args.bytes.now c.in-Refused.k c.in-Refused.p (ap stated (sym c.in-Refused.is) ∙ c.check_lengths-a.ensures)
+pub returns-in_err-check_lengths : goal.returns-in_err-check_lengths
+returns-in_err-check_lengths c =
+    let p = err_from_is_err_and c.from_residual.result c.from_residual.ensures.1 in
+    rw (p.1, p.2) (archive_refused c.args.numbers.now c.args.bytes.now _ (ap stated (sym c.in_err-check_lengths.was) ∙ c.check_lengths.ensures))
 
 pub fill_planes-requires : goal.fill_planes-requires
 fill_planes-requires c =
-    let e = passed c.check_lengths-a.result c.check_lengths-a.ensures c.in_default.is in
+    let e = passed c.check_lengths.result c.check_lengths.ensures _ c.in_ok-check_lengths.was in
     (thirds _ _ e, four_times _ _ e)
 
 pub returns : goal.returns
 returns c =
-    let e = passed c.check_lengths-a.result c.check_lengths-a.ensures c.in_default.is in
+    let e = passed c.check_lengths.result c.check_lengths.ensures _ c.in_ok-check_lengths.was in
     archive_done c.args.numbers.now c.args.bytes.now _ e c.fill_planes.ensures

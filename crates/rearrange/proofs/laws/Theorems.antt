@@ -12,9 +12,8 @@ use mir.Syntax.{w32}
 use mir.Val.{of_z, to_z}
 use mir.ValLaws.{to_z-of_z, of_z-to_z, of_z_fits}
 use Rattle.paper.specs.Scan.{values_from}
-use Rattle.paper.specs.Faults.{Verdict, sound, stated, kept}
-use Rattle.paper.specs.declared.Answer.{Answer}
-use Rattle.paper.specs.declared.Answer.TheVariants.{Done, Refused}
+use Rattle.std.specs.Prelude.{Ok, Err}
+use Rattle.paper.specs.Faults.{Verdict, sound, stated, kept, Answer, done}
 use Rattle.mesh.proofs.Links.{values_length, values_at}
 use Rattle.mesh.proofs.Verdicts.{unsound}
 use Rattle.paper.specs.Archive.{bits_at, delta, archived, stored_at, sum_at, restored_at, restored, archive_verdict, Archived, Restored, All32Bit, AllBytes}
@@ -157,24 +156,24 @@ module _ (bytes : List ℕ) (m : ℕ) (small : AllBytes bytes) (len : length byt
   bytes_back = same_planes m (archived made) bytes (archived_length made ∙ ap (λ (x : ℕ). 4 * x) (restored_length bytes m)) len plane0 plane1 plane2 plane3
 
 -- ---- two calls
-done_of : (r : Answer) → stated r ≡ sound → r ≡ Done
-done_of Done e = refl
-done_of (Refused k p) e = unsound k p e
+done_of : (r : Answer) → stated r ≡ sound → r ≡ done
+done_of (Ok tt) e = refl
+done_of (Err x) e = unsound x.number x.place e
 
 archive_passes : (numbers : List ℤ) (old bytes : List ℕ) (a : Answer) → length numbers % 3 ≡ 0 → length old ≡ 4 * length numbers → Archived numbers old a bytes
-    → (a ≡ Done) × (bytes ≡ archived numbers)
+    → (a ≡ done) × (bytes ≡ archived numbers)
 archive_passes numbers old bytes a t l c =
     let s : stated a ≡ sound = c.answers ∙ passes (length numbers) (length old) t l in
     (done_of a s, c.holds ∙ ap (λ (x : Verdict). kept x (archived numbers) old) s)
 
 restore_passes : (bytes : List ℕ) (lent back : List ℤ) (r : Answer) → length lent % 3 ≡ 0 → length bytes ≡ 4 * length lent → Restored bytes lent r back
-    → (r ≡ Done) × (back ≡ restored bytes (length lent))
+    → (r ≡ done) × (back ≡ restored bytes (length lent))
 restore_passes bytes lent back r t l c =
     let s : stated r ≡ sound = c.answers ∙ passes (length lent) (length bytes) t l in
     (done_of r s, c.holds ∙ ap (λ (x : Verdict). kept x (restored bytes (length lent)) lent) s)
 
 -- a list that is restored is a quarter as long as the bytes
-pub restored_fits : (bytes : List ℕ) (lent out : List ℤ) (r : Answer) → Restored bytes lent r out → r ≡ Done → length bytes ≡ 4 * length out
+pub restored_fits : (bytes : List ℕ) (lent out : List ℤ) (r : Answer) → Restored bytes lent r out → r ≡ done → length bytes ≡ 4 * length out
 restored_fits bytes lent out r c e =
     let v : archive_verdict (length lent) (length bytes) ≡ sound = sym c.answers ∙ ap stated e in
     let q = restore_passes bytes lent out r (thirds _ _ v) (four_times _ _ v) c in

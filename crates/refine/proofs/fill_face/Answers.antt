@@ -2,9 +2,8 @@
 use mathlib.Core.Path.{◌≡◌}
 use mathlib.Core.List.{List}
 use lib.IntN.{ℤ}
-use Prim.Native.Nat.{ℕ, ◌+◌, ◌-◌, ◌≤◌, ◌<◌}
+use Prim.Native.Nat.{ℕ, ◌+◌, ◌≤◌, ◌<◌}
 use native.Mathlib.Omega.{arith}
-use borrow.Author.Rules.{rules}
 use lib.Dec.{lit<}
 use lib.ListN.{length, get_or}
 use Rattle.corner_points.specs.Mean.{Known, total_on, CornerPointed}
@@ -54,16 +53,15 @@ fill_corner-requires c =
     record { lists = c.requires.lists; face = ((here a).0, c.requires.face.1); points = (omega (arith, c.requires.points.0, k.same), k.small) }
 
 pub loop-points-preserved : goal.loop-points-preserved
-loop-points-preserved c =
-    let l = c in (
-      omega (arith, l.loop-points.invariant.0),
-      omega (arith, c.if-end-c.false),
-      turn (goal.at.loop-points-preserved c).At-loop-points _
-          (elim c.if-marked-u-ne0.branch [
-            | then-marked-u-ne0 w ↦ rw w.points-is (filled (goal.at.loop-points-preserved c).At-loop-points _ (omega (arith, w.if-marked-u-ne0.true)) w.fill_corner.ensures)
-            | else-marked-u-ne0 w ↦ rw w.points-is (passed (goal.at.loop-points-preserved c).At-loop-points (omega (arith, w.if-marked-u-ne0.false)))
-          ]),
-    )
+loop-points-preserved c = (
+  omega (arith, c.loop-points.invariant.0),
+  omega (arith, c.if-end-c.false),
+  turn (goal.at.loop-points-preserved c).At-loop-points _
+      (elim c.if-marked-u-ne0.branch [
+        | then-marked-u-ne0 w ↦ rw w.points-is (filled (goal.at.loop-points-preserved c).At-loop-points _ (omega (arith, w.if-marked-u-ne0.true)) w.fill_corner.ensures)
+        | else-marked-u-ne0 w ↦ rw w.points-is (passed (goal.at.loop-points-preserved c).At-loop-points (omega (arith, w.if-marked-u-ne0.false)))
+      ]),
+)
 
 pub returns : goal.returns
 returns c =

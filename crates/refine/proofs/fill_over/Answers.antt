@@ -1,25 +1,22 @@
 -- `refine::fill_over` meets its contract: the sums of the faces that are needed stand in the table when the loop over corners takes them.
 use native.Mathlib.Omega.{arith}
-use borrow.Author.Rules.{rules}
-use Rattle.paper.specs.Mesh.{Mesh, mesh_of}
+use Rattle.paper.specs.Mesh.{Mesh, of_lists}
 use Rattle.refine.proofs.Points.{put_value}
 use Rattle.refine.proofs.Laws.{covered_of, fits_of, table_point_lem}
 use Rattle.refine.proofs.fill_over.Goals as goal
 use Rattle.refine.proofs.fill_over.Goals.{After-fill_faces, After-fill_sums, Start}
 
 abbrev mesh : Start → Mesh
-mesh s = mesh_of s.args.coordinates.now s.args.sides.now s.args.corners.now s.args.sharpness.now
+mesh s = of_lists s.args.lists
 
 pub fill_sums-requires : goal.fill_sums-requires
 fill_sums-requires c =
-    let s = c in
-    let R = s.requires.mesh in record { mesh = (R.faces, R.sums, R.placed); marked = s.requires.marked; room = s.requires.room }
+    let R = c.requires.mesh in record { mesh = (R.faces, R.sums, R.placed); marked = c.requires.marked; room = c.requires.room }
 
 pub fill_faces-requires : goal.fill_faces-requires
 fill_faces-requires c =
     let s = (goal.at.fill_faces-requires c).Start in
-    let a = c in
-    let k = a.fill_sums in
+    let k = c.fill_sums in
     let room = s.requires.room in record {
       mesh = s.requires.mesh;
       table = s.requires.table;
@@ -31,6 +28,4 @@ fill_faces-requires c =
 pub returns : goal.returns
 returns c =
     let s = (goal.at.returns c).Start in
-    let a = c in
-    let b = c in
-    put_value (table_point_lem (mesh s) s.requires.mesh _ _ _ a.fill_sums.ensures) b.fill_faces.ensures
+    put_value (table_point_lem (mesh s) s.requires.mesh _ _ _ c.fill_sums.ensures) c.fill_faces.ensures

@@ -1,7 +1,6 @@
 -- `refine::fill_points` meets its contract: there are no more sums than corners, and for these the tables are long enough.
 use Prim.Native.Nat.{ℕ, ◌*◌, ◌≤◌}
 use native.Mathlib.Omega.{arith}
-use borrow.Author.Rules.{rules}
 use lib.IntN.{ℤ, pos}
 use lib.ListN.{length, length-replicate}
 use Rattle.paper.specs.Mesh.{most_corners, most_faces}
@@ -13,17 +12,16 @@ use Rattle.refine.proofs.fill_points.Goals as goal
 use Rattle.refine.proofs.fill_points.Goals.{After-table_rows, Start}
 
 module _ (s : Start) where
-  few : length s.args.corners.now ≤ most_corners
+  few : length s.args.lists.corners.now ≤ most_corners
   few = omega (arith, s.requires.mesh.faces.few, s.requires.mesh.sums)
 
-  fits : sum_row * length s.args.sides.now ≤ length s.args.corners.now
-  fits = omega (arith, sums_fit s.args.sides.now s.requires.mesh.faces, s.requires.mesh.sums)
+  fits : sum_row * length s.args.lists.sides.now ≤ length s.args.lists.corners.now
+  fits = omega (arith, sums_fit s.args.lists.sides.now s.requires.mesh.faces, s.requires.mesh.sums)
 
 pub fill_over-requires : goal.fill_over-requires
 fill_over-requires c =
     let s = (goal.at.fill_over-requires c).Start in
-    let r = c in
-    let rows = rows_suffice _ _ r.table_rows.ensures (few s) in
+    let rows = rows_suffice _ _ c.table_rows.ensures (few s) in
     record {
       mesh = s.requires.mesh;
       table = s.requires.table;

@@ -3,4 +3,4 @@ use Rattle.rearrange.proofs.laws.Theorems.{restored_fits}
 use Rattle.restore.proofs.restore_numbers.Goals as goal
 
 pub write_numbers-requires : goal.write_numbers-requires
-write_numbers-requires c = restored_fits _ _ _ c.restore-answer.result c.restore-answer.ensures c.in-Done.is
+write_numbers-requires c = restored_fits _ _ _ c.restore.result c.restore.ensures c.in-Ok.is

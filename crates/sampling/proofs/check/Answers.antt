@@ -4,36 +4,33 @@ use mathlib.Core.Bool.{not}
 use Rattle.paper.specs.Faults.{sound, stated}
 use Rattle.paper.specs.Floats.{net_verdict}
 use Rattle.paper.specs.Sampling.{weights}
+use Rattle.std.proofs.lemmas.Result.{err_from_is_err_and}
 use Rattle.mesh.proofs.Verdicts.{passed}
 use Rattle.sampling.proofs.Laws.{first_point, net_refused, side_refused, parts_refused, all_passed}
 use Rattle.sampling.proofs.check.Goals as goal
-use Rattle.sampling.proofs.check.Goals.{In_default}
+use Rattle.sampling.proofs.check.Goals.{In_ok-check}
 
 -- after 18 and 19
-module _ (t : In_default) where
+module _ (t : In_ok-check) where
   net_sound : net_verdict t.args.numbers.now ≡ sound
-  net_sound = passed t.check-a.result (t.check-a.ensures ∙ first_point t.args.numbers.now) t.in_default.is
+  net_sound = passed t.check.result (t.check.ensures ∙ first_point t.args.numbers.now) _ t.in_ok-check.was
 
-pub returns-in-Refused : goal.returns-in-Refused
-returns-in-Refused c =
-    let k = c in
-    let s = c in
-    net_refused s.args.numbers.now s.args.side (weights s.args.i s.args.j s.args.k s.args.n) c.in-Refused.number c.in-Refused.place
-    (sym (sym (ap stated c.in-Refused.is) ∙ k.check-a.ensures ∙ first_point s.args.numbers.now))
+pub returns-in_err-check : goal.returns-in_err-check
+returns-in_err-check c =
+    let p = err_from_is_err_and c.from_residual.result c.from_residual.ensures.1 in
+    rw (p.1, p.2) (net_refused c.args.numbers.now c.args.side (weights c.args.i c.args.j c.args.k c.args.n) _ _
+    (sym (sym (ap stated c.in_err-check.was) ∙ c.check.ensures ∙ first_point c.args.numbers.now)))
 
 pub returns-then-side-gt3 : goal.returns-then-side-gt3
 returns-then-side-gt3 c =
-    let s = c in
-    side_refused s.args.numbers.now s.args.side (weights s.args.i s.args.j s.args.k s.args.n) (net_sound (search)) c.if-side-gt3.true
+    side_refused c.args.numbers.now c.args.side (weights c.args.i c.args.j c.args.k c.args.n) (net_sound (search)) c.if-side-gt3.true
 
 pub returns-then-not-is_whole : goal.returns-then-not-is_whole
 returns-then-not-is_whole c =
-    let s = c in
-    parts_refused s.args.numbers.now s.args.side (weights s.args.i s.args.j s.args.k s.args.n) (net_sound (search))
+    parts_refused c.args.numbers.now c.args.side (weights c.args.i c.args.j c.args.k c.args.n) (net_sound (search))
     c.if-side-gt3.false (sym c.is_whole.ensures ∙ ap not c.if-not-is_whole.true)
 
 pub returns : goal.returns
 returns c =
-    let s = c in
-    all_passed s.args.numbers.now s.args.side (weights s.args.i s.args.j s.args.k s.args.n) (net_sound (search))
+    all_passed c.args.numbers.now c.args.side (weights c.args.i c.args.j c.args.k c.args.n) (net_sound (search))
     c.if-side-gt3.false (sym c.is_whole.ensures ∙ ap not c.if-not-is_whole.false)

@@ -41,7 +41,7 @@ module _ (t : In-loop-j) where
   first = t.args.first
 
   inv : (t.loop-j.g ≡ state_of e (first + j)) × RowPut e t.args.n first j t.args.from t.args.points.now t.loop-j.points
-  inv = t.loop-j.invariant.1 e t.state_at-g.ensures
+  inv = t.loop-j.invariant e t.state_at-g.ensures
 
   below : j < t.args.count
   below = t.loop-j-test.true
@@ -61,45 +61,41 @@ module _ (t : In-loop-j) where
   room = omega (arith, inv.1.same, below, t.requires.1)
 
 pub loop-j-init : goal.loop-j-init
-loop-j-init c = (omega arith, λ e h. (h ∙ ap (state_of e) (from_all c.args.first), row_none e c.args.n c.args.first c.args.from c.args.points.now))
+loop-j-init c = λ e h. (h ∙ ap (state_of e) (from_all c.args.first), row_none e c.args.n c.args.first c.args.from c.args.points.now)
 
-pub rounded-v-requires : goal.rounded-v-requires
-rounded-v-requires c = (c.requires.0.some, c.requires.0.few, small (search))
+pub rounded-requires : goal.rounded-requires
+rounded-requires c = (c.requires.0.some, c.requires.0.few, small (search))
 
 pub loop-j-preserved : goal.loop-j-preserved
 loop-j-preserved c =
-    let s = c in
-    let fits : SFits w32 c.rounded-v.result = search rules in
-    let l = c.loop-j in (
-      omega (arith, below (search)),
-      λ e h.
-          let i = l.invariant.1 e h in (
-            c.step-g.ensures ∙ ap step_of i.0 ∙ state_step e (s.args.first + l.j) ∙ ap (state_of e) (one_more_lem s.args.first l.j),
-            row_step e s.args.n s.args.first l.j s.args.from s.args.points.now l.points (to_z w32 (of_z w32 c.rounded-v.result)) i.1
-                (room (search))
-                (to_z-of_z fits ∙ c.rounded-v.ensures ∙ ap (λ (z : ℤ). round z (pos (s.args.n ^ 4)))
-                (sized_bits l.g.a (2 ^ 60) (sized (search)).0 (lit≤ tt) ∙ value_same e l.g (s.args.first + l.j) i.0)),
-          ),
+    let fits : SFits w32 c.rounded.result = search rules in
+    let l = c.loop-j in
+    λ e h.
+    let i = l.invariant e h in (
+      c.step-g.ensures ∙ ap step_of i.0 ∙ state_step e (c.args.first + l.j) ∙ ap (state_of e) (one_more_lem c.args.first l.j),
+      row_step e c.args.n c.args.first l.j c.args.from c.args.points.now l.points (to_z w32 (of_z w32 c.rounded.result)) i.1
+          (room (search))
+          (to_z-of_z fits ∙ c.rounded.ensures ∙ ap (λ (z : ℤ). round z (pos (c.args.n ^ 4)))
+          (sized_bits l.g.a (2 ^ 60) (sized (search)).0 (lit≤ tt) ∙ value_same e l.g (c.args.first + l.j) i.0)),
     )
 
 pub shape_of-points : goal.shape_of-points
-shape_of-points c = (c.loop-j.invariant.1 _ c.state_at-g.ensures).1.same
+shape_of-points c = (c.loop-j.invariant _ c.state_at-g.ensures).1.same
 
 pub returns : goal.returns
 returns c =
     let l = c.loop-j in
-    let s = c in
-    subst (λ (x : ℕ). RowPut s.args.e s.args.n s.args.first x s.args.from s.args.points.now l.points) (omega (arith, l.invariant.0))
-    (l.invariant.1 s.args.e c.state_at-g.ensures).1
+    subst (λ (x : ℕ). RowPut c.args.e c.args.n c.args.first x c.args.from c.args.points.now l.points) (omega arith)
+    (l.invariant c.args.e c.state_at-g.ensures).1
 
 pub state_at-g-requires : goal.state_at-g-requires
 state_at-g-requires c = (c.requires.0.tapers, c.requires.0.early)
 
-pub overflow_mul-v : goal.overflow_mul-v
-overflow_mul-v c = let h = room (search) in search rules
+pub overflow_mul-j : goal.overflow_mul-j
+overflow_mul-j c = let h = room (search) in search rules
 
-pub overflow_add-v : goal.overflow_add-v
-overflow_add-v c = let h = room (search) in search rules
+pub overflow_add-from : goal.overflow_add-from
+overflow_add-from c = let h = room (search) in search rules
 
 pub offset_bounds-points-from : goal.offset_bounds-points-from
 offset_bounds-points-from c = let h = room (search) in search rules

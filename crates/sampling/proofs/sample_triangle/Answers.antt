@@ -5,25 +5,25 @@ use native.Mathlib.Omega.{arith}
 use borrow.Author.Rules.{rules}
 use Rattle.paper.specs.Faults.{sound}
 use Rattle.paper.specs.Sampling.{weights, sample_verdict}
+use Rattle.std.proofs.lemmas.Result.{err_from_is_err_and}
 use Rattle.mesh.proofs.Verdicts.{passed}
 use Rattle.sampling.proofs.Laws.{net_passed, side_passed, some_parts, few_parts, triangle_refused, triangle_short, triangle_done, few_samples}
 use Rattle.sampling.proofs.Laws.{needed_is}
 use Rattle.sampling.proofs.sample_triangle.Goals as goal
-use Rattle.sampling.proofs.sample_triangle.Goals.{In_default}
+use Rattle.sampling.proofs.sample_triangle.Goals.{In_ok-check}
 
 -- after the checks
-module _ (t : In_default) where
+module _ (t : In_ok-check) where
   is_sound : sample_verdict t.args.numbers.now t.args.side (weights t.args.n 0 0 t.args.n) ≡ sound
-  is_sound = passed t.check-a.result t.check-a.ensures t.in_default.is
+  is_sound = passed t.check.result t.check.ensures _ t.in_ok-check.was
 
-few : (t : In_default) → t.args.n ≤ 16
+few : (t : In_ok-check) → t.args.n ≤ 16
 few t = few_parts t.args.numbers.now t.args.side t.args.n 0 0 t.args.n (is_sound t)
 
-pub returns-in-Refused : goal.returns-in-Refused
-returns-in-Refused c =
-    let k = c in
-    let s = c in
-    triangle_refused s.args.numbers.now s.args.side s.args.n s.args.points.now k.check-a.result k.check-a.ensures c.in-Refused.number c.in-Refused.place c.in-Refused.is
+pub returns-in_err-check : goal.returns-in_err-check
+returns-in_err-check c =
+    let p = err_from_is_err_and c.from_residual.result c.from_residual.ensures.1 in
+    rw (p.1, p.2) (triangle_refused c.args.numbers.now c.args.side c.args.n c.args.points.now c.check.result c.check.ensures _ c.in_err-check.was)
 
 pub returns-then-points-needed : goal.returns-then-points-needed
 returns-then-points-needed c =
@@ -46,9 +46,8 @@ put_triangle-requires c =
 
 pub returns : goal.returns
 returns c =
-    let e = c in
     triangle_done c.args.numbers.now c.args.side c.args.n c.args.points.now (is_sound (search)) _
-    (omega (arith, needed_is c.args.n, e.if-points-needed.false)) c.put_triangle.ensures
+    (omega (arith, needed_is c.args.n, c.if-points-needed.false)) c.put_triangle.ensures
 
 pub overflow_add-needed : goal.overflow_add-needed
 overflow_add-needed t = let h = few (search) in search rules

@@ -6,12 +6,12 @@ use mathlib.Core.Logic.{⊎_elim}
 use Prim.Native.Nat.{ℕ, zero, suc, ◌+◌, ◌-◌, ◌/◌, ◌%◌, ◌^◌, ◌<◌, ◌≤◌}
 use native.Mathlib.Nat.{pow-succ', pow-le-pow_right}
 use native.Mathlib.Omega.{arith}
-use lib.Dec.{T, ltb}
+use lib.Dec.{ltb}
 use lib.ListN.{length, length-append}
-use lib.IntN.{ℤ, pos, negsuc, nat_abs, ◌-ℤ◌}
-use lib.Signed.{lt_z, non_neg}
-use mir.Syntax.{w32, w64}
-use mir.Val.{Fits, SFits}
+use lib.IntN.{ℤ, pos, negsuc, nat_abs}
+use lib.Signed.{lt_z}
+use mir.Syntax.{w64}
+use mir.Val.{Fits}
 use borrow.Author.Tests.{ltb-true, ltb-false, lt-ltb, le-ltb}
 use Rattle.io.specs.Digits.{hex_digit_ascii, last_digits, IsDigitCount}
 use Rattle.mesh.proofs.Scans.{ways}
@@ -79,19 +79,7 @@ decimal_short (suc most) n = ⊎_elim few (many (decimal_short most (n / 10))) (
     many : length (decimal_within most (n / 10)) ≤ most → ltb n 10 ≡ false → length (decimal_within (suc most) n) ≤ suc most
     many h e = let l = length-append (decimal_within most (n / 10)) ((48 + n % 10) ∷ []) in rw e (omega arith)
 
--- ---- a signed number of 32 bits, and its size
-pub negated : (z : ℤ) → SFits w32 z → lt_z z (pos 0) ≡ true → SFits w64 (pos 0 -ℤ z) × T (non_neg (pos 0 -ℤ z)) × Fits w64 (nat_abs (pos 0 -ℤ z))
-negated (pos a) h e = absurd (let k : a < 0 = ltb-true a 0 e in omega arith)
-negated (negsuc a) h e = let k = h.sfits in (record { sfits = omega arith }, tt, record { fits = omega arith })
-
-pub plain : (z : ℤ) → SFits w32 z → lt_z z (pos 0) ≡ false → T (non_neg z) × Fits w64 (nat_abs z)
-plain (pos a) h e = let k = h.sfits in (tt, record { fits = omega arith })
-plain (negsuc a) h e = absurd (true≢false e)
-
-pub negated_size : (z : ℤ) → lt_z z (pos 0) ≡ true → nat_abs (pos 0 -ℤ z) ≡ nat_abs z
-negated_size (pos a) e = absurd (let k : a < 0 = ltb-true a 0 e in omega arith)
-negated_size (negsuc a) e = omega arith
-
+-- ---- a signed number, by its size
 pub signed_below : (z : ℤ) → lt_z z (pos 0) ≡ true → 45 ∷ decimal (nat_abs z) ≡ signed_decimal z
 signed_below (pos a) e = absurd (let k : a < 0 = ltb-true a 0 e in omega arith)
 signed_below (negsuc a) e = refl

@@ -4,25 +4,14 @@ use Prim.Native.Nat.{◌+◌, ◌*◌}
 use native.Mathlib.Omega.{arith}
 use Rattle.paper.specs.Sampling.{side_at}
 use Rattle.strips.specs.PointRows.{row_number, strip_number, three}
-use Rattle.strips.proofs.Rowed.{fills_none, fills_more, fills_as, over_three}
+use Rattle.strips.proofs.Rowed.{fills_more, fills_as, over_three}
 use Rattle.strips.proofs.put_over.Goals as goal
 
 pub loop-t-preserved : goal.loop-t-preserved
 loop-t-preserved c =
-    let g = strip_number (side_at c.args.side) c.args.lower c.args.upper in (
-      refl,
-      refl,
-      omega arith,
-      omega (arith, c.put_three.auto.out),
-      fills_as g c.args.at (3 * c.loop-t.t + 3) (3 * (c.loop-t.t + 1)) _ _ (omega arith)
-          (fills_more g (three c.number-a.result c.number-b.result c.number-c.result) c.args.at (3 * c.loop-t.t) (c.args.at + 3 * c.loop-t.t)
-          3 _ _ _ refl c.loop-t.invariant.4 c.put_three.ensures
-          (over_three (side_at c.args.side) c.args.lower c.args.upper c.loop-t.t _ _ _ (omega arith) c.number-a.ensures
-          c.number-b.ensures (c.number-c.ensures ∙ ap (row_number c.args.upper) c.over.ensures.0))),
-    )
-
-pub returns : goal.returns
-returns c = let l = c.loop-t in fills_as (strip_number (side_at c.args.side) c.args.lower c.args.upper) c.args.at (3 * l.t) (3 * c.args.lower.parts) _ _ (omega arith) l.invariant.4
-
-pub loop-t-init : goal.loop-t-init
-loop-t-init c = (refl, refl, omega arith, refl, fills_none _ _ _)
+    let g = strip_number (side_at c.args.side) c.args.lower c.args.upper in
+    fills_as g c.args.at (3 * c.loop-t.t + 3) (3 * (c.loop-t.t + 1)) _ _ (omega arith)
+    (fills_more g (three c.number-a.result c.number-b.result c.number-c.result) c.args.at (3 * c.loop-t.t) (c.args.at + 3 * c.loop-t.t)
+    3 _ _ _ refl c.loop-t.invariant c.put_three.ensures
+    (over_three (side_at c.args.side) c.args.lower c.args.upper c.loop-t.t _ _ _ (omega arith) c.number-a.ensures
+    c.number-b.ensures (c.number-c.ensures ∙ ap (row_number c.args.upper) c.over.ensures.0)))

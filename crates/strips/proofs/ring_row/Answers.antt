@@ -1,3 +1,4 @@
+-- `ring_row` meets its contract.
 use Prim.Native.Nat.{◌*◌, ◌≤◌}
 use mathlib.Core.Logic.{inl, inr}
 use native.Mathlib.Omega.{arith}
@@ -6,7 +7,6 @@ use Rattle.strips.proofs.Rowed.{ring_wraps, ring_numbers, times_few}
 use Rattle.strips.proofs.ring_row.Goals as goal
 use Rattle.strips.proofs.ring_row.Goals.{Start, then-side-lt3, else-side-lt3}
 
--- `ring_row` meets its contract.
 few : (s : Start) → s.args.side * s.args.w ≤ 64 * 64
 few s = times_few s.args.side s.args.w (omega arith) (omega arith)
 
@@ -20,18 +20,3 @@ returns c =
       refl,
       ring_numbers s.start (s.side * s.w) s.w c.if-side-lt3.last z.0 z.1 z.2,
     )
-
-pub overflow_mul-at : goal.overflow_mul-at
-overflow_mul-at c = omega (arith, few (search))
-
-pub overflow_cast-at : goal.overflow_cast-at
-overflow_cast-at c = omega (arith, few (search))
-
-pub overflow_add-at : goal.overflow_add-at
-overflow_add-at c = omega (arith, few (search))
-
-pub overflow_add-last : goal.overflow_add-last
-overflow_add-last c = omega (arith, few (search))
-
-pub overflow_add-result : goal.overflow_add-result
-overflow_add-result c = omega (arith, few (search))

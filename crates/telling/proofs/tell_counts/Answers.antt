@@ -9,4 +9,4 @@ told : (v f c : ℕ) (a b a' b' : List ℕ) → a ≡ a' → b ≡ b' → counts
 told v f c a b a' b' p q = rw (p, q)
 
 pub returns : goal.returns
-returns c = told _ _ _ _ _ _ _ c.copy_halves.ensures c.copy_halves-2.ensures
+returns c = told _ _ _ _ _ _ _ c.copy.ensures c.copy-2.ensures

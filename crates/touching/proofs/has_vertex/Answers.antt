@@ -1,26 +1,17 @@
--- `has_vertex` meets its contract: what is found is whether the vertex is among the corners looked at.
-use mathlib.Core.Path.{◌≡◌, sym, ◌∙◌}
-use Prim.Native.Nat.{◌+◌}
+-- What is found is whether the vertex is among the corners passed: none, and one more.
+use Rattle.std.proofs.Common.{sym, ap, ◌∙◌, zero-add}
+use Rattle.paper.specs.Links.{vertex_of}
 use Rattle.touching.proofs.Laws.{among_none, found_here, found_not}
-use native.Mathlib.Omega.{arith}
 use Rattle.touching.proofs.has_vertex.Goals as goal
 use Rattle.touching.proofs.has_vertex.Goals.{then-u-vertex, else-u-vertex}
 
-pub overflow_cast-u : goal.overflow_cast-u
-overflow_cast-u c =
-    omega (arith, c.type_inv.corners (c.args.start + c.loop-j.j))
+pub loop-u-init : goal.loop-u-init
+loop-u-init c = sym (among_none _ _ _)
 
-pub loop-j-preserved : goal.loop-j-preserved
-loop-j-preserved c = (
-  omega arith,
-  elim c.if-u-vertex.branch [ then-u-vertex w ↦ w.found-is ∙ found_here _ _ _ _ w.if-u-vertex.true | else-u-vertex w ↦ w.found-is ∙ found_not _ _ _ _ w.if-u-vertex.false c.loop-j.invariant.1 ],
-)
-
-pub returns : goal.returns
-returns c =
-    let l = c.loop-j in
-    let e : l.j ≡ c.args.n = omega (arith, l.invariant.0) in
-    rw (← e) l.invariant.1
-
-pub loop-j-init : goal.loop-j-init
-loop-j-init c = (omega arith, sym (among_none _ _ _))
+pub loop-u-preserved : goal.loop-u-preserved
+loop-u-preserved c =
+    let at = ap (vertex_of c.args.face.now) (zero-add c.loop-u.u-index) in
+    elim c.if-u-vertex.branch [
+      | then-u-vertex w ↦ w.found-is ∙ found_here _ 0 _ _ (at ∙ w.if-u-vertex.true)
+      | else-u-vertex w ↦ w.found-is ∙ found_not _ 0 _ _ (λ q. w.if-u-vertex.false (sym at ∙ q)) c.loop-u.invariant
+    ]

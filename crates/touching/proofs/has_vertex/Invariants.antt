@@ -1,11 +1,7 @@
--- `has_vertex` meets its contract: what is found is whether the vertex is among the corners looked at.
-use mathlib.Core.Path.{◌≡◌}
-use Prim.Native.Nat.{◌-◌, ◌≤◌}
+-- What is found is whether the vertex is among the corners passed.
+use Rattle.std.proofs.Common.{◌≡◌}
 use Rattle.touching.specs.Sharing.{among}
 use Rattle.touching.proofs.has_vertex.Given as goal
 
-abbrev pub invariant-loop-j : goal.invariant-loop-j
-invariant-loop-j l = (l.j ≤ l.n) × (l.found ≡ among l.corners l.start l.j l.vertex)
-
-abbrev pub decreases-loop-j : goal.decreases-loop-j
-decreases-loop-j l = l.n - l.j
+abbrev pub invariant-loop-u : goal.invariant-loop-u
+invariant-loop-u l = l.found ≡ among l.face 0 l.u-index l.vertex

@@ -1,6 +1,7 @@
 -- Laws of a call for triangles: what it answers and leaves.
-use mathlib.Core.Path.{◌≡◌, refl, sym, ap, ◌∙◌}
+use mathlib.Core.Path.{◌≡◌, refl, sym, ◌∙◌}
 use mathlib.Core.List.{List}
+use Rattle.std.specs.Prelude.{Ok, Err}
 use Prim.Native.Nat.{ℕ, ◌+◌, ◌-◌, ◌*◌, ◌≤◌, ◌<◌}
 use native.Mathlib.Omega.{arith}
 use lib.Dec.{eqb, ltb}
@@ -8,12 +9,10 @@ use borrow.Author.Tests.{eqb-false, ltb-false}
 use lib.ListN.{length}
 use lib.IntN.{ℤ}
 use Rattle.paper.specs.Mesh.{Mesh}
-use Rattle.paper.specs.Faults.{sound, fault, ◌or_else◌, single, stated}
+use Rattle.paper.specs.Faults.{sound, fault, ◌or_else◌, single, Told}
 use Rattle.paper.specs.Calls.{fault16}
 use Rattle.paper.specs.File.{no_room, begins}
 use Rattle.paper.specs.Triangles.{point_list, triangle_list, coordinate_at, index_at, points_before, triangles_before, level_verdict, triangle_room, Triangulated}
-use Rattle.paper.specs.declared.Answer.TheVariants.{Done, Refused}
-use Rattle.paper.specs.declared.Triangles.{Triangles}
 use Rattle.mesh.proofs.Links.{values_length}
 use Rattle.mesh.proofs.Ranges.{none_left}
 use Rattle.mesh.proofs.Verdicts.{sound_left, sound_right, single_sound, past, or_else_fault}
@@ -21,6 +20,8 @@ use Rattle.triangles.specs.Checks.{CountedAs}
 use Rattle.triangles.specs.filling.Filled.{TrianglesFilled}
 use Rattle.triangles.specs.Owned.{Pointed}
 use Rattle.strips.proofs.Stood.{filled_list}
+use Rattle.paper.specs.declared.Triangles.{Triangles}
+use Rattle.paper.specs.declared.Refusal.{Refusal}
 
 -- ---- what the call answers and leaves
 module _ (M : Mesh) (links levels : List ℕ) (first count : ℕ) where
@@ -63,39 +64,31 @@ module _ (M : Mesh) (levels : List ℕ) (first count : ℕ) where
   )
 
   module _ (old : List ℤ) (old' : List ℕ) where
-    pub filled_refused : (k p : ℕ) → fault k p ≡ triangle_room M levels first count (length old) (length old')
-        → TrianglesFilled M levels first count old old' (record { answer = Refused k p; points = 0; triangles = 0 }) old old'
-    filled_refused k p e = record { answers = e; points_length = refl; triangles_length = refl; points_hold = refl; triangles_hold = refl }
+    pub filled_refused : (r : Refusal) → fault r.number r.place ≡ triangle_room M levels first count (length old) (length old')
+        → TrianglesFilled M levels first count old old' (Err r) old old'
+    filled_refused r e = record { answers = e; lengths = tt; points_hold = refl; triangles_hold = refl }
 
-    pub filled : (r : Triangles) (points : List ℤ) (triangles : List ℕ) → triangle_room M levels first count (length old) (length old') ≡ sound
-        → r.answer ≡ Done → CountedAs M levels first count r.points r.triangles → points ≡ begins (point_list M levels first count) old
-        → triangles ≡ begins (triangle_list M levels first count) old' → TrianglesFilled M levels first count old old' r points triangles
-    filled r points triangles s e c p t = record {
-      answers = ap stated e ∙ sym s;
-      points_length = rw e (c.points_are ∙ sym points_many);
-      triangles_length = rw e (c.triangles_are ∙ sym triangles_many);
-      points_hold = rw e p;
-      triangles_hold = rw e t;
+    pub filled : (n : Triangles) (points : List ℤ) (triangles : List ℕ) → triangle_room M levels first count (length old) (length old') ≡ sound
+        → CountedAs M levels first count n.points n.triangles → points ≡ begins (point_list M levels first count) old
+        → triangles ≡ begins (triangle_list M levels first count) old' → TrianglesFilled M levels first count old old' (Ok n) points triangles
+    filled n points triangles s c p t = record {
+      answers = sym s;
+      lengths = (c.points_are ∙ sym points_many, c.triangles_are ∙ sym triangles_many);
+      points_hold = p;
+      triangles_hold = t;
     }
 
 module _ (M : Mesh) (links levels : List ℕ) (first count : ℕ) (old : List ℤ) (old' : List ℕ) where
   -- one of the checks before 255 refuses; or they pass, and the rest is as above
-  pub triangles_refused : (k p : ℕ) → fault k p ≡ level_verdict M links first count levels
-      → Triangulated M links levels first count old old' (record { answer = Refused k p; points = 0; triangles = 0 }) old old'
-  triangles_refused k p e = record {
-    answers = sym (or_else_fault k p _ (sym e));
-    points_length = refl;
-    triangles_length = refl;
-    points_hold = refl;
-    triangles_hold = refl;
-  }
+  pub triangles_refused : (r : Refusal) → fault r.number r.place ≡ level_verdict M links first count levels
+      → Triangulated M links levels first count old old' (Err r) old old'
+  triangles_refused r e = record { answers = sym (or_else_fault r.number r.place _ (sym e)); lengths = tt; points_hold = refl; triangles_hold = refl }
 
-  pub triangulated : (r : Triangles) (points : List ℤ) (triangles : List ℕ) → level_verdict M links first count levels ≡ sound
+  pub triangulated : (r : Told Triangles) (points : List ℤ) (triangles : List ℕ) → level_verdict M links first count levels ≡ sound
       → TrianglesFilled M levels first count old old' r points triangles → Triangulated M links levels first count old old' r points triangles
   triangulated r points triangles s f = record {
     answers = past s _ f.answers;
-    points_length = f.points_length;
-    triangles_length = f.triangles_length;
+    lengths = f.lengths;
     points_hold = f.points_hold;
     triangles_hold = f.triangles_hold;
   }

@@ -1,19 +1,22 @@
--- Laws of the numbers that corners have of their own: runs of corners, the numbers of a run, and those of the points and of the tangents alike.
+-- Laws of the numbers that corners have of their own: runs of corners, the numbers of a run, and what holds of points and of tangents.
 use mathlib.Core.Path.{◌≡◌, refl, sym, ap, ◌∙◌, subst}
-use mathlib.Core.Bool.{Bool, true, false}
 use mathlib.Core.List.{List}
-use Prim.Native.Nat.{ℕ, ◌+◌, ◌-◌, ◌*◌, ◌≤◌}
+use Prim.Native.Nat.{ℕ, ◌+◌, ◌-◌, ◌*◌, ◌≤◌, ◌<◌}
 use native.Mathlib.Omega.{arith}
-use lib.ListN.{length, take, length-take}
+use lib.ListN.{length, take, drop, length-take}
 use lib.Seq.{get_or-take}
 use lib.IntN.{ℤ, pos}
 use Rattle.paper.specs.Mesh.{Mesh, corner_count}
 use Rattle.paper.specs.Numbers.{rounded}
+use Rattle.paper.specs.Faults.{sound}
+use Rattle.paper.specs.Floats.{net_verdict}
+use Rattle.numbering.specs.declared.CornerTables.{CornerTables}
+use Rattle.triangles.specs.Owned.{Netted}
+use Rattle.triangles.proofs.Own.{nets_length, net_sound}
 use Rattle.paper.specs.Refined.{RefinedMesh}
 use Rattle.paper.specs.Calls.{per_corner, nets}
-use Rattle.paper.specs.File.{begins}
-use Rattle.paper.specs.Triangles.{points_before, coordinate_at}
-use Rattle.paper.specs.Tangents.{tangent_at}
+use Rattle.paper.specs.Triangles.{points_before, coordinate_at, point_list}
+use Rattle.paper.specs.Tangents.{tangent_at, tangent_list}
 use Rattle.closing.proofs.Calls.{points_between}
 use Rattle.net.specs.Drawn.{drawn}
 use Rattle.building.specs.writing.Written.{NetsDrawn, NetsWritten}
@@ -21,7 +24,7 @@ use Rattle.building.proofs.writing.Laws.{drawn_written}
 use Rattle.strips.specs.PointRows.{Stands}
 use Rattle.strips.proofs.Stood.{put_as, put_join}
 use Rattle.triangles.specs.tangent_filling.Paired.{tangents_before}
-use Rattle.triangles.specs.runs.Chosen.{own_before, own_at, own_list, lent_of}
+use Rattle.triangles.specs.runs.Chosen.{OwnLaws}
 use Rattle.triangles.proofs.filling.Laws.{points_filled}
 use Rattle.triangles.proofs.tangent_filling.Laws.{tangents_between, tangents_filled}
 
@@ -34,14 +37,6 @@ module _ (B : ℕ → ℕ) (most : ℕ) (rises : (c d : ℕ) → c ≤ d → d �
       (ap B (let z : first + c + run ≡ first + (c + run) = omega arith in z))
       (put_join f (B first) (B (first + c)) (B (first + c + run)) 0 to to' old out new
       (rises first (first + c) (omega arith) (omega arith)) (rises (first + c) (first + c + run) (omega arith) (omega arith)) p q)
-
-  pub run_room : (c run to len : ℕ) → c + run ≤ count → to ≡ 3 * (B (first + c) - B first)
-      → 3 * (B (first + count) - B first) ≤ len → to + 3 * (B (first + c + run) - B (first + c)) ≤ len
-  run_room c run to len l e r =
-      let x = rises first (first + c) (omega arith) (omega arith) in
-      let y = rises (first + c) (first + c + run) (omega arith) (omega arith) in
-      let z = rises (first + c + run) (first + count) (omega arith) (omega arith) in
-      omega arith
 
   pub run_end : (c run to to' : ℕ) → c + run ≤ count → to ≡ 3 * (B (first + c) - B first)
       → to' ≡ to + 3 * (B (first + c + run) - B (first + c)) → to' ≡ 3 * (B (first + (c + run)) - B first)
@@ -64,56 +59,28 @@ run_nets M table refined first count n d e c run l out long w =
     (length-take (per_corner * run) out ∙ omega arith)
     (written_part _ (first + c) run out (rw e w))
 
--- ---- points and tangents alike
-pub own_between : (paired : Bool) (M : Mesh) (levels : List ℕ) (c d : ℕ) → c ≤ d → d ≤ corner_count M → own_before paired M levels c ≤ own_before paired M levels d
-unfolding own_before
-own_between true M levels c d h l = tangents_between M levels c d h l
-own_between false M levels c d h l = points_between M levels c d h l
+-- ---- one corner more
+module _ (B : ℕ → ℕ) (most : ℕ) (rises : (c d : ℕ) → c ≤ d → d ≤ most → B c ≤ B d) (first count : ℕ) (h : first + count ≤ most) (at c : ℕ) (l : c < count) where
+  pub next_end : (to to' : ℕ) → to ≡ at + 3 * (B (first + c) - B first) → to' ≡ to + 3 * (B (first + c + 1) - B (first + c))
+      → to' ≡ at + 3 * (B (first + (c + 1)) - B first)
+  next_end to to' e f =
+      let x = rises first (first + c) (omega arith) (omega arith) in
+      let y = rises (first + c) (first + c + 1) (omega arith) (omega arith) in
+      omega (arith, ap B (let z : first + c + 1 ≡ first + (c + 1) = omega arith in z))
 
-pub own_filled : (paired : Bool) (M : Mesh) (levels : List ℕ) (first count c to : ℕ) (old out : List ℤ) → c ≡ count
-    → Stands (own_at paired M levels) (own_before paired M levels first) (own_before paired M levels (first + c)) 0 to old out
-    → out ≡ begins (own_list paired M levels first count) old
-unfolding own_before own_at own_list
-own_filled true M levels first count c to old out e p = tangents_filled M levels first count c to old out e p
-own_filled false M levels first count c to old out e p = points_filled M levels first count c to old out e p
+-- ---- the numbers of the nets of a range
+module _ {T : CornerTables} {numbers : List ℤ} {first count : ℕ} (n : Netted T numbers first count) where
+  pub netted_long : length numbers ≡ per_corner * count
+  netted_long = ap length n.numbers_are ∙ nets_length n.mesh first count
 
--- the list that they go to is as long as before
-pub lent_of_long : (paired : Bool) (points pairs points' pairs' : List ℤ) → length points' ≡ length points → length pairs' ≡ length pairs
-    → length (lent_of paired points' pairs') ≡ length (lent_of paired points pairs)
-unfolding lent_of
-lent_of_long true points pairs points' pairs' p q = q
-lent_of_long false points pairs points' pairs' p q = p
+  pub netted_sound : first + count ≤ length T.levels.now → (c : ℕ) → c < count → net_verdict (take per_corner (drop (per_corner * c) numbers)) ≡ sound
+  netted_sound h c l =
+      subst (λ (x : List ℤ). net_verdict (take per_corner (drop (per_corner * c) x)) ≡ sound) (sym n.numbers_are)
+      (net_sound n.mesh first count c l n.is.accepted (omega (arith, h, n.is.many)))
 
--- ---- a corner's, by the one way or the other
-module _ (M : Mesh) (levels : List ℕ) (c at to : ℕ) (points pairs points' pairs' : List ℤ) where
-  abbrev Own : Bool → Type 0
-  Own paired = Stands (own_at paired M levels) (own_before paired M levels c) (own_before paired M levels (c + 1)) at to (lent_of paired points pairs) (lent_of paired points' pairs')
+-- ---- the laws of the two kinds
+pub points_laws : OwnLaws points_before coordinate_at point_list
+points_laws = record { rises = points_between; whole = λ M levels first count to old out s. points_filled M levels first count count to old out refl s }
 
-  pub own_pairs : (paired : Bool) → paired ≡ true → Stands (tangent_at M levels) (tangents_before M levels c) (tangents_before M levels (c + 1)) at to pairs pairs' → Own paired
-  unfolding own_before own_at lent_of
-  own_pairs paired e s = subst (λ (b : Bool). Own b) (sym e) s
-
-  pub own_points : (paired : Bool) → paired ≡ false → Stands (coordinate_at M levels) (points_before M levels c) (points_before M levels (c + 1)) at to points points' → Own paired
-  unfolding own_before own_at lent_of
-  own_points paired e s = subst (λ (b : Bool). Own b) (sym e) s
-
-module _ (M : Mesh) (levels : List ℕ) (c at to : ℕ) (points pairs : List ℤ) where
-  pub room_pairs : (paired : Bool) → paired ≡ true → at + 3 * (own_before paired M levels (c + 1) - own_before paired M levels c) ≤ length (lent_of paired points pairs)
-      → at + 3 * (tangents_before M levels (c + 1) - tangents_before M levels c) ≤ length pairs
-  unfolding own_before lent_of
-  room_pairs paired e h = rw e at h
-
-  pub room_points : (paired : Bool) → paired ≡ false → at + 3 * (own_before paired M levels (c + 1) - own_before paired M levels c) ≤ length (lent_of paired points pairs)
-      → at + 3 * (points_before M levels (c + 1) - points_before M levels c) ≤ length points
-  unfolding own_before lent_of
-  room_points paired e h = rw e at h
-
-  pub end_pairs : (paired : Bool) → paired ≡ true → to ≡ at + 3 * (tangents_before M levels (c + 1) - tangents_before M levels c)
-      → to ≡ at + 3 * (own_before paired M levels (c + 1) - own_before paired M levels c)
-  unfolding own_before
-  end_pairs paired e h = rw e h
-
-  pub end_points : (paired : Bool) → paired ≡ false → to ≡ at + 3 * (points_before M levels (c + 1) - points_before M levels c)
-      → to ≡ at + 3 * (own_before paired M levels (c + 1) - own_before paired M levels c)
-  unfolding own_before
-  end_points paired e h = rw e h
+pub tangents_laws : OwnLaws tangents_before tangent_at tangent_list
+tangents_laws = record { rises = tangents_between; whole = λ M levels first count to old out s. tangents_filled M levels first count count to old out refl s }

@@ -33,9 +33,9 @@ returns c = (
     few_level = omega (arith, c.level_at-level.ensures, level_few c.requires.0 c.args.c c.requires.1);
   },
   λ M o. record {
-    vertex = vertex_size M c.args.levels.now c.args.corners.now c.args.c _ o.corners_are c.own_vertex-vertex.ensures.1;
-    edge = edge_size M c.args.levels.now c.args.c _ (c.own_edge-edge.ensures.1 M (here_of M o c.args.c c.requires.1));
-    face = face_size M c.args.levels.now c.args.c _ (c.own_face-face.ensures.1 M (here_of M o c.args.c c.requires.1));
+    vertex = vertex_size M c.args.tables.levels.now c.args.tables.corners.now c.args.c _ o.corners_are c.own_vertex-vertex.ensures.1;
+    edge = edge_size M c.args.tables.levels.now c.args.c _ (c.own_edge-edge.ensures.1 M (here_of M o c.args.c c.requires.1));
+    face = face_size M c.args.tables.levels.now c.args.c _ (c.own_face-face.ensures.1 M (here_of M o c.args.c c.requires.1));
     first = c.segments_at-first.ensures.2 M (here_of M o c.args.c c.requires.1);
     second = c.segments_at-second.ensures.2 M (here_of M o c.args.c c.requires.1);
     levelled = c.level_at-level.ensures;

@@ -1,6 +1,7 @@
 -- Laws of a call for tangents: what a corner's net gives is what the list of tangents has there, and what the call answers and leaves.
 use mathlib.Core.Path.{◌≡◌, refl, sym, ap, ◌∙◌, subst}
 use mathlib.Core.List.{List}
+use Rattle.std.specs.Prelude.{Ok, Err}
 use Prim.Native.Nat.{ℕ, zero, suc, ◌+◌, ◌-◌, ◌*◌, ◌/◌, ◌%◌, ◌≤◌, ◌<◌}
 use native.Mathlib.Omega.{arith}
 use lib.Dec.{ltb}
@@ -11,16 +12,15 @@ use Rattle.paper.specs.Mesh.{Mesh, corner_count}
 use Rattle.paper.specs.Scan.{values_from}
 use Rattle.paper.specs.Corners.{start_of, first_of, position_of}
 use Rattle.paper.specs.Net.{Side, side0, side1, side2}
-use Rattle.paper.specs.Faults.{sound, fault, single, Accepted}
+use Rattle.paper.specs.Faults.{sound, fault, single, Accepted, Told}
 use Rattle.paper.specs.Calls.{nets}
+use Rattle.paper.specs.declared.Refusal.{Refusal}
 use Rattle.paper.specs.File.{no_room, begins}
 use Rattle.paper.specs.Sampling.{side_at}
 use Rattle.paper.specs.Triangles.{groups, level, segments, point_groups, turn_weights, owned, points_before, level_verdict}
 use Rattle.paper.specs.Tangents.{tangent_pair, tangent_number, own_tangent, tangent_at, tangent_list, tangent_verdict, TangentsFilled}
-use Rattle.paper.specs.declared.Answer.TheVariants.{Done, Refused}
-use Rattle.paper.specs.declared.Tangents.{Tangents}
 use Rattle.mesh.proofs.Links.{values_length}
-use Rattle.mesh.proofs.Verdicts.{single_hit, single_miss, past, or_else_fault}
+use Rattle.mesh.proofs.Verdicts.{single_hit, single_miss, past, or_else_fault, refusing}
 use Rattle.closing.proofs.Partners.{Leveled}
 use Rattle.closing.proofs.Numbered.{In, group_is, number_is}
 use Rattle.closing.proofs.Calls.{points_between}
@@ -117,15 +117,15 @@ module _ (M : Mesh) (levels : List ℕ) (first count : ℕ) where
     needed : 6 * points ≡ length (tangent_list M levels first count)
     needed = ap (λ (x : ℕ). 6 * x) counted ∙ sym tangents_many
 
-    pub pairs_short : length old < 6 * points → PairsFilled M levels first count old (record { answer = Refused no_room (6 * points); numbers = 0 }) old
+    pub pairs_short : length old < 6 * points → PairsFilled M levels first count old (refusing no_room (6 * points)) old
     pairs_short h = record {
       answers = sym (single_hit no_room (6 * points) (lt-ltb (length old) (6 * points) h)) ∙ ap (λ (x : ℕ). single no_room (ltb (length old) x) x) needed;
-      numbers_are = refl;
+      numbers_are = tt;
       holds = refl;
     }
 
     pub pairs_done : 6 * points ≤ length old → (out : List ℤ) → out ≡ begins (tangent_list M levels first count) old
-        → PairsFilled M levels first count old (record { answer = Done; numbers = 6 * points }) out
+        → PairsFilled M levels first count old (Ok (6 * points)) out
     pairs_done h out e = record {
       answers = subst (λ (x : ℕ). sound ≡ single no_room (ltb (length old) x) x) needed (sym (single_miss no_room (6 * points) (le-ltb (length old) (6 * points) h)));
       numbers_are = needed;
@@ -134,12 +134,12 @@ module _ (M : Mesh) (levels : List ℕ) (first count : ℕ) where
 
 module _ (M : Mesh) (links levels : List ℕ) (first count : ℕ) (old : List ℤ) where
   -- one of the checks before 255 refuses; or they pass, and the rest is as above
-  pub tangents_refused : (k p : ℕ) → fault k p ≡ level_verdict M links first count levels
-      → TangentsFilled M links levels first count old (record { answer = Refused k p; numbers = 0 }) old
+  pub tangents_refused : (r : Refusal) → fault r.number r.place ≡ level_verdict M links first count levels
+      → TangentsFilled M links levels first count old (Err r) old
   unfolding tangent_verdict
-  tangents_refused k p e = record { answers = sym (or_else_fault k p _ (sym e)); numbers_are = refl; holds = refl }
+  tangents_refused r e = record { answers = sym (or_else_fault r.number r.place _ (sym e)); numbers_are = tt; holds = refl }
 
-  pub tangents_told : (r : Tangents) (out : List ℤ) → level_verdict M links first count levels ≡ sound → PairsFilled M levels first count old r out
+  pub tangents_told : (r : Told ℕ) (out : List ℤ) → level_verdict M links first count levels ≡ sound → PairsFilled M levels first count old r out
       → TangentsFilled M links levels first count old r out
   unfolding tangent_verdict
   tangents_told r out s f = record { answers = past s _ f.answers; numbers_are = f.numbers_are; holds = f.holds }

@@ -9,11 +9,11 @@ use Rattle.triangles.proofs.tangents.Goals as goal
 
 pub tangents_over-requires : goal.tangents_over-requires
 tangents_over-requires c =
-    rows_for (length c.args.corners.now) small_mesh (λ h. omega (arith, rows_suffice _ _ c.table_rows-rows.ensures h))
+    rows_for (length c.args.lists.corners.now) small_mesh (λ h. omega (arith, rows_suffice _ _ c.table_rows-rows.ensures h))
 
 pub tangents_over-requires-then-rows-eq-LARGE_MESH : goal.tangents_over-requires-then-rows-eq-LARGE_MESH
 tangents_over-requires-then-rows-eq-LARGE_MESH c =
-    rows_for (length c.args.corners.now) large_mesh (λ h. omega (arith, rows_suffice _ _ c.table_rows-rows.ensures h))
+    rows_for (length c.args.lists.corners.now) large_mesh (λ h. omega (arith, rows_suffice _ _ c.table_rows-rows.ensures h))
 
 pub tangents_over-requires-else-rows-eq-LARGE_MESH : goal.tangents_over-requires-else-rows-eq-LARGE_MESH
-tangents_over-requires-else-rows-eq-LARGE_MESH c = rows_for (length c.args.corners.now) most_corners (λ h. h)
+tangents_over-requires-else-rows-eq-LARGE_MESH c = rows_for (length c.args.lists.corners.now) most_corners (λ h. h)

@@ -1,43 +1,31 @@
 -- `triangles_over` meets its contract: one of the checks refuses, or the rest is done.
-use mathlib.Core.Path.{◌≡◌, sym, ap, ◌∙◌}
-use Rattle.mesh.proofs.Verdicts.{passed}
-use Rattle.paper.specs.Mesh.{Mesh, mesh_of}
-use Rattle.paper.specs.Faults.{sound, stated}
-use Rattle.paper.specs.Triangles.{level_verdict}
-use Rattle.triangles.proofs.Asked.{all_levelled, range_in}
+use Rattle.std.proofs.lemmas.Result.{err_from_is_err_and}
+use Rattle.paper.specs.Mesh.{of_lists}
+use Rattle.triangles.proofs.Asked.{checked, checked_levelled, range_in}
 use Rattle.triangles.proofs.filling.Laws.{range_some, triangles_refused, triangulated}
 use Rattle.triangles.proofs.triangles_over.Goals as goal
-use Rattle.triangles.proofs.triangles_over.Goals.{In_default, Start}
 
-abbrev mesh : Start → Mesh
-mesh s = mesh_of s.args.coordinates.now s.args.sides.now s.args.corners.now s.args.sharpness.now
+pub returns-in_err-check_all : goal.returns-in_err-check_all
+returns-in_err-check_all c =
+    let M = of_lists c.args.lists in
+    let p = err_from_is_err_and c.from_residual.result c.from_residual.ensures.1 in
+    rw (p.1, p.2) (triangles_refused M c.args.links.now c.args.levels.now c.args.first c.args.count _ _ _ c.in_err-check_all.ensures.answers)
 
-pub returns-in-Refused : goal.returns-in-Refused
-returns-in-Refused c =
-    let k = c.in-Refused in
-    triangles_refused (mesh (goal.at.returns-in-Refused c).Start) c.args.links.now c.args.levels.now c.args.first c.args.count _ _ k.k k.p
-    (sym (ap stated k.is) ∙ c.check_all-a.ensures.answers)
+pub fill-requires-clause-mesh : goal.fill-requires-clause-mesh
+fill-requires-clause-mesh c =
+    checked_levelled (of_lists c.args.lists) c.args.links.now
+    c.args.first c.args.count c.args.levels.now _ _ c.check_all.ensures _ c.in_ok-check_all.was
 
--- the checks have passed
-module _ (t : In_default) where
-  abbrev s : Start
-  s = search
-
-  ok : level_verdict (mesh s) s.args.links.now s.args.first s.args.count s.args.levels.now ≡ sound
-  ok = passed t.check_all-a.result t.check_all-a.ensures.answers t.in_default.is
-
-pub fill-requires : goal.fill-requires
-fill-requires c =
-    let u : Start = (goal.at.fill-requires c).Start in
-    let w = c.check_all-a in record {
-      mesh = all_levelled (mesh u) u.args.links.now u.args.first u.args.count u.args.levels.now (ok (goal.at.fill-requires c).In_default) _ (w.ensures.tabled (w.ensures.answers ∙ ok (goal.at.fill-requires c).In_default));
-      range = (
-        range_some (mesh u) u.args.links.now u.args.levels.now u.args.first u.args.count (ok (goal.at.fill-requires c).In_default),
-        range_in (mesh u) u.args.links.now u.args.first u.args.count u.args.levels.now (ok (goal.at.fill-requires c).In_default),
-      );
-    }
+pub fill-requires-clause-range : goal.fill-requires-clause-range
+fill-requires-clause-range c =
+    let M = of_lists c.args.lists in
+    let s = checked M c.args.links.now c.args.first c.args.count c.args.levels.now _ _ c.check_all.ensures _ c.in_ok-check_all.was in (
+      range_some M c.args.links.now c.args.levels.now c.args.first c.args.count s,
+      range_in M c.args.links.now c.args.first c.args.count c.args.levels.now s,
+    )
 
 pub returns : goal.returns
 returns c =
-    let u : Start = (goal.at.returns c).Start in
-    triangulated (mesh u) u.args.links.now u.args.levels.now u.args.first u.args.count _ _ _ _ _ (ok (goal.at.returns c).In_default) c.fill.ensures
+    let M = of_lists c.args.lists in
+    let s = checked M c.args.links.now c.args.first c.args.count c.args.levels.now _ _ c.check_all.ensures _ c.in_ok-check_all.was in
+    triangulated M c.args.links.now c.args.levels.now c.args.first c.args.count _ _ _ _ _ s c.fill.ensures

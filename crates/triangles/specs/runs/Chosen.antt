@@ -1,30 +1,20 @@
--- The numbers that corners have of their own in lists of two kinds: those of the points, or, where `paired` says so, those of the tangents.
-use Rattle.std.specs.Prelude.{Bool, cond, List, ℕ, ℤ}
-use Rattle.paper.specs.Mesh.{Mesh}
-use Rattle.paper.specs.Scan.{pick_n}
-use Rattle.paper.specs.Triangles.{points_before, coordinate_at, point_list}
-use Rattle.paper.specs.Tangents.{tangent_at, tangent_list}
+-- The numbers that corners have of their own: nets that they come from, and what holds of each kind of them.
+use Rattle.std.specs.Prelude.{◌≡◌, List, ℕ, ◌+◌, ◌≤◌, ℤ}
+use Rattle.paper.specs.Mesh.{Mesh, corner_count}
+use Rattle.paper.specs.File.{begins}
 use Rattle.building.specs.writing.Written.{NetsDrawn}
-use Rattle.numbering.specs.Meshed.{Of}
-use Rattle.triangles.specs.tangent_filling.Paired.{tangents_before}
+use Rattle.strips.specs.PointRows.{Stands}
+use Rattle.numbering.specs.declared.CornerTables.{CornerTables}
+use Rattle.numbering.specs.Meshed.{OfTables}
 
 -- a mesh with levels whose nets of `count` corners from `first` on the refined points give
-pub record Drawing (corners low table levels : List ℕ) (refined : List ℤ) (first count : ℕ) : Type 0 where
+pub record Drawing (T : CornerTables) (refined : List ℤ) (first count : ℕ) : Type 0 where
   pub mesh : Mesh
-  pub is : Of mesh corners low table levels
-  pub draws : NetsDrawn mesh table refined first count
+  pub is : OfTables mesh T
+  pub draws : NetsDrawn mesh T.table.now refined first count
 
--- how many triples of numbers the corners before c have, and number x of all
-unfoldable pub own_before : Bool → Mesh → List ℕ → ℕ → ℕ
-own_before paired M levels c = pick_n paired (tangents_before M levels c) (points_before M levels c)
-
-unfoldable pub own_at : Bool → Mesh → List ℕ → ℕ → ℤ
-own_at paired M levels = cond paired (tangent_at M levels) (coordinate_at M levels)
-
--- those of a range
-unfoldable pub own_list : Bool → Mesh → List ℕ → ℕ → ℕ → List ℤ
-own_list paired M levels first count = cond paired (tangent_list M levels first count) (point_list M levels first count)
-
--- the lent list that they go to
-unfoldable pub lent_of : Bool → List ℤ → List ℤ → List ℤ
-lent_of paired points pairs = cond paired pairs points
+-- what holds of each kind of numbers: the corners before a later one have as many or more, and where those of a range stand, its list stands
+pub record OwnLaws {A : Type 0} (before : Mesh → List ℕ → ℕ → ℕ) (number : Mesh → List ℕ → ℕ → A) (list : Mesh → List ℕ → ℕ → ℕ → List A) : Type 0 where
+  pub rises : (M : Mesh) (levels : List ℕ) (c d : ℕ) → c ≤ d → d ≤ corner_count M → before M levels c ≤ before M levels d
+  pub whole : (M : Mesh) (levels : List ℕ) (first count to : ℕ) (old out : List A)
+      → Stands (number M levels) (before M levels first) (before M levels (first + count)) 0 to old out → out ≡ begins (list M levels first count) old

@@ -4,4 +4,4 @@ use Rattle.dms_lists.proofs.header.Headers.{header_within}
 use Rattle.turn.proofs.turn_file.Goals as goal
 
 pub turn_lists-requires : goal.turn_lists-requires
-turn_lists-requires c = header_within c.args.file.now c.args.counted (passed _ c.check_header-header.ensures c.in_default.is)
+turn_lists-requires c = header_within c.args.file.now c.args.counted (passed _ c.check_header.ensures _ c.in-Ok.is)

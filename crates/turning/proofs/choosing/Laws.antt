@@ -1,14 +1,15 @@
 -- What check 34 leaves for check 35, and what the two answer.
 use mathlib.Core.Path.{◌≡◌, ap, ◌∙◌, sym}
 use mathlib.Core.List.{List}
+use Rattle.std.specs.Prelude.{Err}
 use Prim.Native.Nat.{ℕ, ◌≤◌}
 use native.Mathlib.Omega.{arith}
 use lib.ListN.{length}
-use Rattle.paper.specs.Faults.{sound, lowest_of, stated}
+use Rattle.paper.specs.Faults.{sound, lowest_of, stated, Answer, done}
+use Rattle.paper.specs.declared.Refusal.{Refusal}
 use Rattle.paper.specs.Turning.{fault34, fault35}
-use Rattle.paper.specs.declared.Answer.{Answer}
 use Rattle.mesh.proofs.Faces.{start_all}
-use Rattle.mesh.proofs.Verdicts.{lowest_sound, or_else_fault, or_else_sound, unsound}
+use Rattle.mesh.proofs.Verdicts.{lowest_sound, or_else_sound, stop, unsound}
 use Rattle.partners.specs.Lists.{ListsPass}
 use Rattle.partners.specs.Keys.{PartnersOver}
 use Rattle.turning.specs.starts.Starts.{StartsTo}
@@ -17,15 +18,15 @@ use Rattle.turning.specs.spreading.Spread.{SpreadOver}
 use Rattle.turning.specs.choosing.Choice.{Chosen}
 
 -- check 34 stops the search, or 35 decides
-pub chosen_refused : {sides corners : List ℕ} {r : Answer} {partners : List ℕ} {k p : ℕ} (states : List ℕ) → PartnersOver sides corners r partners
-    → r ≡ Answer.Refused k p → Chosen sides corners (Answer.Refused k p) states
-chosen_refused {sides} {corners} {k = k} {p = p} states o e =
+pub chosen_refused : {sides corners : List ℕ} {r : Answer} {partners : List ℕ} (x : Refusal) (states : List ℕ) → PartnersOver sides corners r partners
+    → r ≡ Err x → Chosen sides corners (Err x) states
+chosen_refused {sides} {corners} {r = r} x states o e =
     record {
-      answers = sym (or_else_fault k p (lowest_of 35 (length sides) (fault35 sides corners)) (sym o.answers ∙ ap stated e));
-      turns = λ q. unsound k p q;
+      answers = stop r o.answers x e (lowest_of 35 (length sides) (fault35 sides corners));
+      turns = λ q. unsound x.number x.place q;
     }
 
-module _ {sides corners : List ℕ} {a : Answer} {partners : List ℕ} (o : PartnersOver sides corners a partners) (e : a ≡ Answer.Done) where
+module _ {sides corners : List ℕ} {a : Answer} {partners : List ℕ} (o : PartnersOver sides corners a partners) (e : a ≡ done) where
   passed : lowest_of 34 (length corners) (fault34 sides corners) ≡ sound
   passed = sym o.answers ∙ ap stated e
 

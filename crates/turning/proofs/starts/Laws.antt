@@ -1,10 +1,12 @@
 -- The tables of the faces, filled face by face.
-use mathlib.Core.Path.{◌≡◌, refl, ap, ◌∙◌, sym}
+use mathlib.Core.Path.{◌≡◌, ap, ◌∙◌, sym}
 use mathlib.Core.List.{List}
 use Prim.Native.Nat.{ℕ, ◌+◌, ◌<◌, ◌≤◌}
 use native.Mathlib.Omega.{arith}
-use lib.ListN.{length, get_or, set}
-use lib.Seq.{get_or-set_other}
+use Rattle.std.proofs.lemmas.Grind.{common_steps}
+use Rattle.std.proofs.Common.{replicate}
+use borrow.Rule.Slice.PartMut.{put_mid}
+use lib.ListN.{length, get_or, set, take, drop}
 use Rattle.paper.specs.Corners.{start_of}
 use Rattle.mesh.proofs.Faces.{face_at, start_zero, start_next}
 use Rattle.mesh.proofs.ByCases.{by_less}
@@ -16,11 +18,13 @@ pub started_none : (sides faces starts : List ℕ) → StartsTo sides faces star
 started_none sides faces starts =
     record { faces_are = λ c l. absurd (omega (arith, start_zero sides)); starts_are = λ g l. absurd (omega arith) }
 
-pub faced_step : {f start : ℕ} {old new : List ℕ} {c : ℕ} → start ≤ c → c < length new → FaceNumbered f start old new c → FaceNumbered f start old (set new c f) (c + 1)
-faced_step {f} {start} {old} {new} {c} a l p =
+-- a face's part of the table, filled with its number
+pub faced : (f start n end : ℕ) (old part : List ℕ) → start + n ≡ end → end ≤ length old → part ≡ replicate (length (take n (drop start old))) f
+    → FaceNumbered f start old (put_mid start n old part) end
+faced f start n end old part e l q =
     record {
-      filled = λ d x y. put (λ z. z ≡ f) new c d f l (λ q. refl) (λ q. p.filled d x (omega (arith, q)));
-      kept = λ d x. get_or-set_other new c d f 0 (λ q. omega arith) ∙ p.kept d x;
+      filled = λ d x y. grind (arith, common_steps);
+      kept = λ d x. grind (arith, common_steps);
     }
 
 pub started_step : {sides faces starts faces' : List ℕ} {f start : ℕ} → f < length sides → f < length starts → start ≡ start_of sides f

@@ -1,8 +1,7 @@
 -- What checks 34 and 35 answer, and the choice that is made.
 use Rattle.std.specs.Prelude.{◌≡◌, List, ℕ, ◌<◌, length}
-use Rattle.paper.specs.Faults.{sound, ◌or_else◌, lowest_of, stated}
+use Rattle.paper.specs.Faults.{sound, ◌or_else◌, lowest_of, stated, Answer}
 use Rattle.paper.specs.Turning.{fault34, fault35, says, chosen}
-use Rattle.paper.specs.declared.Answer.{Answer}
 use Rattle.reversing.specs.States.{turns_by}
 
 -- checks 34 and 35, and the states of the faces, which tell the choice

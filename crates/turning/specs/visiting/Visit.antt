@@ -1,5 +1,5 @@
 -- Turns spread over the faces: states of faces, the queue of those that were reached, and what a visit of one face does.
-use Rattle.std.specs.Prelude.{◌≡◌, Bool, false, not, List, ℕ, ◌+◌, ◌<◌, ◌≤◌, eqb, length, get_or}
+use Rattle.std.specs.Prelude.{◌≡◌, Bool, false, not, List, ℕ, ◌+◌, ◌<◌, ◌≤◌, eqb, length, get_or, Result, Ok, Err}
 use Rattle.std.specs.Bool.{xor}
 use Rattle.paper.specs.Mesh.{most_faces, most_corners}
 use Rattle.paper.specs.Scan.{count_below}
@@ -9,8 +9,7 @@ use Rattle.reversing.specs.States.{turns_by}
 use Rattle.partners.specs.Lists.{FacesListed}
 use Rattle.partners.specs.Partner.{partner}
 use Rattle.turning.specs.Constraints.{MeetsAt, JoinedIn, MeetsPart}
-use Rattle.turning.specs.declared.visiting.Reach.{Reach}
-use Rattle.turning.specs.declared.visiting.Reach.TheVariants.{To, Clash}
+use Rattle.turning.specs.declared.visiting.Clash.{Clash}
 
 -- the state of a face: 0 before it is reached, then 1 where it is kept and 2 where it is turned
 abbrev pub Seen : List ℕ → ℕ → Type 0
@@ -78,7 +77,7 @@ abbrev pub Unturnable : List ℕ → List ℕ → ℕ → Type 0
 Unturnable sides corners r = (t : ℕ → Bool) → MeetsPart sides corners t r → ⊥
 
 -- what a visit of f answers
-abbrev pub Visited : List ℕ → List ℕ → ℕ → List ℕ → List ℕ → ℕ → Reach → List ℕ → List ℕ → Type 0
-Visited sides corners f old queue tail (To tail') states queue' = Visiting sides corners f old queue tail states queue' tail' (length corners)
-Visited sides corners f old queue tail Clash states queue' =
+abbrev pub Visited : List ℕ → List ℕ → ℕ → List ℕ → List ℕ → ℕ → Result ℕ Clash → List ℕ → List ℕ → Type 0
+Visited sides corners f old queue tail (Ok tail') states queue' = Visiting sides corners f old queue tail states queue' tail' (length corners)
+Visited sides corners f old queue tail (Err e) states queue' =
     (r : ℕ) (before : List ℕ) → Round sides corners r before old → get_or before f 0 ≡ 0 → AllSettled sides corners before → Unturnable sides corners r

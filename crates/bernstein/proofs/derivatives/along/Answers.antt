@@ -4,4 +4,4 @@ use Rattle.bernstein.proofs.derivatives.along.Goals as goal
 
 pub returns : goal.returns
 unfolding along_of
-returns c = cc (c.times-r1.ensures, c.times-r2.ensures, c.times-r3.ensures)
+returns c = cc (c.times.ensures, c.times-2.ensures, c.times-3.ensures)

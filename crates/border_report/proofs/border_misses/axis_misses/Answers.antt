@@ -2,7 +2,7 @@
 use mathlib.Core.Path.{◌≡◌, ◌∙◌}
 use Prim.Native.Nat.{ℕ, max}
 use lib.Dec.{lit<}
-use Rattle.border_report.proofs.border_misses.Laws.{miss0, miss1}
+use Rattle.border_report.proofs.border_misses.Laws.{larger_at, miss0, miss1}
 use Rattle.border_report.proofs.border_misses.axis_misses.Goals as goal
 
 both : {a b x y : ℕ} → a ≡ x → b ≡ y → max a b ≡ max x y
@@ -25,8 +25,8 @@ returns c K e four held-here held-linked held_next j few =
     let a = c.args in
     let across-link = c.side_misses-across_link.ensures j few
     ∙ miss0 K e a.axis a.face.now a.linked.now a.here 0 held-here held-linked a.sides.side0 four.side0 j few _ _ _
-    (c.row-outer0.ensures.0 j) (c.row-own0.ensures.0 j) (c.row-other0.ensures.0 j) in
+    (c.row-outer0.ensures.0 j few) (c.row-own0.ensures.0 j few) (c.row-other0.ensures.0 j few) in
     let across-next = c.side_misses-across_next.ensures j few
     ∙ miss1 K e a.axis a.face.now a.face.now a.here a.next held-here held_next a.sides.side1 four.side1 j few _ _ _
-    (c.row-outer1.ensures.0 j) (c.row-own1.ensures.0 j) (c.row-other1.ensures.0 j) in
-    c.larger_of.ensures j ∙ both across-link across-next
+    (c.row-outer1.ensures.0 j few) (c.row-own1.ensures.0 j few) (c.row-other1.ensures.0 j few) in
+    larger_at _ _ c.larger_of.ensures j few ∙ both across-link across-next

@@ -4,7 +4,6 @@ use mathlib.Core.Path.{◌≡◌, refl, sym, ap, ◌∙◌, subst}
 use mathlib.Core.List.{List}
 use Prim.Native.Nat.{ℕ, ◌+◌, ◌*◌, ◌<◌, ◌≤◌}
 use native.Mathlib.Omega.{arith}
-use borrow.Author.Rules.{rules}
 use lib.IntN.{ℤ}
 use Rattle.paper.specs.Mesh.{most_sides}
 use Rattle.paper.specs.Numbers.{rounded}
@@ -16,7 +15,7 @@ use Rattle.net.specs.Drawn.{drawn}
 use Rattle.net.specs.stencil.Taken.{Run, FaceTaken}
 use Rattle.net.proofs.CornerRuns.{face_held, face_kept}
 use Rattle.border_report.specs.border_misses.Held.{NetHeldAll, WholeFace, corner_miss}
-use Rattle.border_report.proofs.border_misses.Laws.{held_of, held_one, one_more_lem}
+use Rattle.border_report.proofs.border_misses.Laws.{larger_at, held_of, held_one, one_more_lem}
 use Rattle.border_report.proofs.border_misses.face_misses.Goals as goal
 use Rattle.border_report.proofs.border_misses.face_misses.Goals.{then-j-k, else-j-k}
 
@@ -29,7 +28,6 @@ take_face-requires c =
 
 pub loop-j-init : goal.loop-j-init
 loop-j-init c = (
-  search rules,
   refl,
   (c.take_face.ensures.same, face_held _ _ _ _ _ c.take_face.ensures),
   λ i few. c.requires.before i few
@@ -64,7 +62,7 @@ write_corners-requires c =
     let p = c.requires.mesh in
     let link_in : c.linked-l.result.corner < c.args.n =
     rw c.linked-l.ensures.read (c.requires.mesh.0.sound.link_in _ (corner_in c.args.table.now c.args.n c.args.start c.args.k c.requires.face c.loop-j.j c.loop-j-test.true)) in
-    record { mesh = (p.0, p.1); range = (omega arith, omega (arith, link_in), omega (arith, c.loop-j.invariant.1)); rows = p.2 }
+    record { mesh = (p.0, p.1); range = (omega arith, omega (arith, link_in), omega (arith, c.loop-j.invariant.0)); rows = p.2 }
 
 pub corner_misses-m-requires : goal.corner_misses-m-requires
 corner_misses-m-requires c =
@@ -78,10 +76,10 @@ corner_misses-m-requires c =
     ] in
     record {
       mesh = (p.0, corner_in c.args.table.now c.args.n c.args.start c.args.k c.requires.face c.loop-j.j c.loop-j-test.true, p.2);
-      ring = (run_here c.args.table.now c.args.n c.args.start c.args.k c.requires.face c.loop-j.j c.loop-j-test.true, c.loop-j.invariant.2.0, ring_here _ _ _ _ c.loop-j-test.true _ c.loop-j.invariant.2.1);
+      ring = (run_here c.args.table.now c.args.n c.args.start c.args.k c.requires.face c.loop-j.j c.loop-j-test.true, c.loop-j.invariant.1.0, ring_here _ _ _ _ c.loop-j-test.true _ c.loop-j.invariant.1.1);
       here = held_of _ _ _ p.0 _ _ c.requires.face.within _ c.requires.numbers.0 c.requires.numbers.1 _ c.loop-j-test.true;
       linked = subst (λ (d : ℕ). NetHeldAll K d c.write_corners.new.out 0) c.linked-l.ensures.read
-          (held_one _ _ _ p.0 _ link_in _ (omega (arith, c.loop-j.invariant.1, c.write_corners.auto.out)) c.write_corners.ensures);
+          (held_one _ _ _ p.0 _ link_in _ (omega (arith, c.loop-j.invariant.0, c.write_corners.auto.out)) c.write_corners.ensures);
       next = subst (λ (d : ℕ). NetHeldAll K d c.args.face.now (per_corner * c.if-j-k.q)) (sym q.1)
           (held_of _ _ _ p.0 _ _ c.requires.face.within _ c.requires.numbers.0 c.requires.numbers.1 _ q.0);
     }
@@ -90,17 +88,16 @@ pub loop-j-preserved : goal.loop-j-preserved
 loop-j-preserved c =
     let i = c.loop-j.invariant in
     let K : ℕ → RefinedMesh rounded = drawn c.args.n c.args.table.now c.args.points.now in (
-      omega (arith, c.loop-j-test.true),
-      c.write_corners.auto.out ∙ i.1,
-      (c.corner_misses-m.auto.stencil ∙ i.2.0, face_kept _ _ _ _ _ c.corner_misses-m.ensures.ring i.2.1),
-      λ h few. one_more_lem _ h _ _ _ _ (c.larger_of-most.ensures h) (i.3 h few) (c.corner_misses-m.ensures.misses h few)
+      c.write_corners.auto.out ∙ i.0,
+      (c.corner_misses-m.auto.stencil ∙ i.1.0, face_kept _ _ _ _ _ c.corner_misses-m.ensures.ring i.1.1),
+      λ h few. one_more_lem _ h _ _ _ _ (larger_at _ _ c.larger_of-larger.ensures h few) (i.2 h few) (c.corner_misses-m.ensures.misses h few)
           ∙ ap (λ (d : ℕ). largest_below d (corner_miss K h)) (let e : c.args.start + c.loop-j.j + 1 ≡ c.args.start + (c.loop-j.j + 1) = omega arith in e),
     )
 
 pub returns : goal.returns
 returns c i few =
     let l = c.loop-j in
-    l.invariant.3 i few
+    l.invariant.2 i few
     ∙ ap (λ (d : ℕ). largest_below (c.args.start + d) (corner_miss (drawn c.args.n c.args.table.now c.args.points.now) i))
     (let e : l.j ≡ c.args.k = omega arith in e)
 
@@ -111,7 +108,7 @@ pub linked-l-requires : goal.linked-l-requires
 linked-l-requires c = omega (arith, corner_in c.args.table.now c.args.n c.args.start c.args.k c.requires.face c.loop-j.j c.loop-j-test.true, c.requires.mesh.0.table_long)
 
 pub slice_bounds-write_corners-end : goal.slice_bounds-write_corners-end
-slice_bounds-write_corners-end c = sym c.loop-j.invariant.1
+slice_bounds-write_corners-end c = sym c.loop-j.invariant.0
 
 pub overflow_add-j : goal.overflow_add-j
 overflow_add-j c = omega (arith, few c.args.table.now c.args.n c.args.start c.args.k c.requires.face c.loop-j.j c.loop-j-test.true)
@@ -128,13 +125,7 @@ overflow_mul-next c =
     omega (arith, q.0, c.requires.face.run.short)
 
 pub slice_bounds-corner_misses-end : goal.slice_bounds-corner_misses-end
-slice_bounds-corner_misses-end c = sym (c.write_corners.auto.out ∙ c.loop-j.invariant.1)
+slice_bounds-corner_misses-end c = sym (c.write_corners.auto.out ∙ c.loop-j.invariant.0)
 
 pub slice_bounds-corner_misses-end-in-loop-j : goal.slice_bounds-corner_misses-end-in-loop-j
-slice_bounds-corner_misses-end-in-loop-j c = sym c.loop-j.invariant.2.0
-
-pub overflow_add-j-in-loop-j : goal.overflow_add-j-in-loop-j
-overflow_add-j-in-loop-j c = omega (arith, few c.args.table.now c.args.n c.args.start c.args.k c.requires.face c.loop-j.j c.loop-j-test.true)
-
-pub loop-j-smaller : goal.loop-j-smaller
-loop-j-smaller c = omega (arith, c.loop-j-test.true)
+slice_bounds-corner_misses-end-in-loop-j c = sym c.loop-j.invariant.1.0

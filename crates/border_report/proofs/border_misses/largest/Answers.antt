@@ -1,27 +1,29 @@
 -- `border_report::border_misses::largest` meets its contract: so far the largest over the corners before `start`, which is the first corner of a face.
 use mathlib.Core.Path.{◌≡◌, refl, sym, ap, ◌∙◌}
-use Prim.Native.Nat.{ℕ, zero, suc}
+use mathlib.Core.List.{[], ◌∷◌}
+use Prim.Native.Nat.{ℕ, zero, suc, ◌<◌}
+use lib.ListN.{get_or}
 use native.Mathlib.Omega.{arith}
-use Rattle.paper.specs.Report.{largest_below}
+use Rattle.paper.specs.Report.{conditions, largest_below}
 use Rattle.mesh.proofs.Faces.{first_from_lem}
 use Rattle.net.specs.Drawn.{drawn}
-use Rattle.pages.specs.four.Four.{in_misses}
 use Rattle.border_report.specs.border_misses.Held.{WholeFace, corner_miss}
 use Rattle.border_report.proofs.border_misses.Laws.{whole_face, next_first, none_so_far}
 use Rattle.border_report.proofs.border_misses.largest.Goals as goal
 
-nothing : (j : ℕ) → in_misses (record { first = 0; second = 0; third = 0; fourth = 0 }) j ≡ 0
-nothing zero = refl
-nothing (suc zero) = refl
-nothing (suc (suc zero)) = refl
-nothing (suc (suc (suc j))) = refl
+nothing : (j : ℕ) → j < conditions → ◌≡◌ {A = ℕ} (get_or (0 ∷ 0 ∷ 0 ∷ 0 ∷ []) j 0) 0
+nothing zero few = refl
+nothing (suc zero) few = refl
+nothing (suc (suc zero)) few = refl
+nothing (suc (suc (suc zero))) few = refl
+nothing (suc (suc (suc (suc j)))) few = absurd (omega arith)
 
 pub loop-start-init : goal.loop-start-init
 loop-start-init c = (
   omega arith,
   λ f l. let a = first_from_lem f.sides 0 (omega (arith, f.all)) in omega arith,
   refl,
-  λ j few. nothing j ∙ sym (none_so_far _ j),
+  λ j few. nothing j few ∙ sym (none_so_far _ j),
 )
 
 pub write_corners-requires : goal.write_corners-requires
@@ -30,8 +32,8 @@ write_corners-requires c =
     whole_face _ _ _ c.requires.0 c.requires.1 _ c.loop-start-test.true (c.loop-start.invariant.1 c.requires.1 c.loop-start-test.true) _ c.sides-k.ensures.read in
     record { mesh = c.requires; range = (w.some, w.within, omega (arith, c.loop-start.invariant.2, w.run.short)); rows = c.rows-rows.ensures }
 
-pub face_misses-most-requires : goal.face_misses-most-requires
-face_misses-most-requires c =
+pub face_misses-larger-requires : goal.face_misses-larger-requires
+face_misses-larger-requires c =
     let w : WholeFace c.args.table.now c.args.n c.loop-start.start c.sides-k.result =
     whole_face _ _ _ c.requires.0 c.requires.1 _ c.loop-start-test.true (c.loop-start.invariant.1 c.requires.1 c.loop-start-test.true) _ c.sides-k.ensures.read in
     record {
@@ -50,7 +52,7 @@ loop-start-preserved c =
       w.within,
       λ f l. next_first _ _ _ c.requires.0 f _ t (i.1 f t) _ c.sides-k.ensures.read l,
       c.write_corners.auto.out ∙ i.2,
-      c.face_misses-most.ensures,
+      c.face_misses-larger.ensures,
     )
 
 pub returns : goal.returns

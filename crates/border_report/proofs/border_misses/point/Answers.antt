@@ -14,10 +14,10 @@ bounds-net-at c = omega (arith, c.requires.0.long, c.requires.1, c.requires.2)
 
 pub returns : goal.returns
 returns c =
-    let f : SFits w64 c.wide.result = search rules in
+    let f : SFits w64 c.from.result = search rules in
     let a = c.args in
     let g : SFits w32 (point_in a.net.now a.at a.axis a.k) = search rules in
-    let e = to_z-of_z f ∙ c.wide.ensures ∙ to_z-of_z g in
+    let e = to_z-of_z f ∙ c.from.ensures ∙ to_z-of_z g in
     (e, rw e (c.requires.0.small a.k c.requires.2))
 
 pub overflow_mul-k : goal.overflow_mul-k

@@ -1,17 +1,19 @@
 -- `border_report::border_misses::row` meets its contract, point by point.
 use mathlib.Core.Path.{◌≡◌}
-use Prim.Native.Nat.{ℕ, zero, suc, ◌^◌}
+use mathlib.Core.List.{[], ◌∷◌}
+use Prim.Native.Nat.{ℕ, zero, suc, ◌^◌, ◌<◌}
+use lib.ListN.{get_or}
+use lib.IntN.{ℤ, pos}
+use native.Mathlib.Omega.{arith}
 use lib.Dec.{lit<}
-use lib.IntN.{ℤ}
 use mir.Syntax.{w64}
 use mir.Val.{to_z, of_z}
 use mir.Facts.{to_z-of_z}
 use Rattle.numbers.proofs.Machine.{abs_fits}
+use Rattle.paper.specs.Report.{conditions}
 use Rattle.surface.specs.Sizes.{WrittenSize}
-use Rattle.border_report.specs.misses.Row.{in_row}
-use Rattle.border_report.specs.border_misses.Held.{four_of}
-use native.Mathlib.Omega.{arith}
-use borrow.Author.Rules.{rules}
+use Rattle.border_report.specs.misses.Row.{SmallRow}
+use Rattle.border_report.specs.border_misses.Held.{point_in, four_of}
 use Rattle.border_report.proofs.border_misses.row.Goals as goal
 
 -- a written number is as it was after it is copied
@@ -21,12 +23,20 @@ plain z h = to_z-of_z (abs_fits w64 z (2 ^ 26) (omega arith) (lit< tt))
 copied : (z y : ℤ) → (z ≡ y) × WrittenSize z → (to_z w64 (of_z w64 z) ≡ y) × WrittenSize (to_z w64 (of_z w64 z))
 copied z y h = rw (plain z h.1) h
 
-four_is : (f : ℕ → ℤ) (p q r s : ℕ) (w x y z : ℤ) → w ≡ f p → x ≡ f q → y ≡ f r → z ≡ f s
-    → (j : ℕ) → in_row (record { p0 = w; p1 = x; p2 = y; p3 = z }) j ≡ four_of f p q r s j
-four_is f p q r s w x y z ew ex ey ez zero = ew
-four_is f p q r s w x y z ew ex ey ez (suc zero) = ex
-four_is f p q r s w x y z ew ex ey ez (suc (suc zero)) = ey
-four_is f p q r s w x y z ew ex ey ez (suc (suc (suc j))) = ez
+module _ (f : ℕ → ℤ) (p q r s : ℕ) (w x y z : ℤ) (ew : (w ≡ f p) × WrittenSize w) (ex : (x ≡ f q) × WrittenSize x) (ey : (y ≡ f r) × WrittenSize y)
+    (ez : (z ≡ f s) × WrittenSize z) where
+  four_is : (j : ℕ) → j < conditions → (get_or (w ∷ x ∷ y ∷ z ∷ []) j (pos 0) ≡ four_of f p q r s j) × WrittenSize (get_or (w ∷ x ∷ y ∷ z ∷ []) j (pos 0))
+  four_is zero few = ew
+  four_is (suc zero) few = ex
+  four_is (suc (suc zero)) few = ey
+  four_is (suc (suc (suc zero))) few = ez
+  four_is (suc (suc (suc (suc j)))) few = absurd (omega arith)
+
+  row_is : ((j : ℕ) → j < conditions → get_or (w ∷ x ∷ y ∷ z ∷ []) j (pos 0) ≡ four_of f p q r s j) × SmallRow (w ∷ x ∷ y ∷ z ∷ [])
+  row_is = ((λ j few. (four_is j few).0), record { small = λ j few. (four_is j few).1 })
 
 pub returns : goal.returns
-returns c = search (rules, four_is, copied)
+returns c =
+    let a = c.args in
+    row_is (point_in a.net.now a.at a.axis) a.p a.q a.r a.s _ _ _ _ (copied c.point.result _ c.point.ensures) (copied c.point-2.result _ c.point-2.ensures)
+    (copied c.point-3.result _ c.point-3.ensures) (copied c.point-4.result _ c.point-4.ensures)

@@ -12,9 +12,8 @@ use Rattle.building.proofs.writing.face_end.Goals.{After-face_start-start, After
 -- the first corner of the face
 below : (c : After-face_start-start) → let w = c.requires in c.face_start-start.result < sum_of w.sides
 below c =
-    let s = c in
-    let w = s.requires in
-    omega (arith, c.face_start-start.ensures w.sides w.rounds.previouses w.here, first_from_lem w.sides s.args.c w.here, w.here)
+    let w = c.requires in
+    omega (arith, c.face_start-start.ensures w.sides w.rounds.previouses w.here, first_from_lem w.sides c.args.c w.here, w.here)
 
 -- by any list of sides that the table is of
 ends : (c : After-sides) (sides : List ℕ) → let s : Start = search in WalksFaces sides s.args.table.now
@@ -30,12 +29,11 @@ ends c sides r h =
 
 pub overflow_add-result : goal.overflow_add-result
 overflow_add-result c =
-    let s = c in
-    let w = s.requires in
-    omega (arith, ends (goal.at.overflow_add-result c).After-sides w.sides w.rounds w.here, first_ends w.sides s.args.c w.here, w.rounds.faces.few)
+    let w = c.requires in
+    omega (arith, ends (goal.at.overflow_add-result c).After-sides w.sides w.rounds w.here, first_ends w.sides c.args.c w.here, w.rounds.faces.few)
 
 pub face_start-start-requires : goal.face_start-start-requires
-face_start-start-requires c = let s = c in omega (arith, s.requires.here, s.requires.rounds.long)
+face_start-start-requires c = omega (arith, c.requires.here, c.requires.rounds.long)
 
 pub sides-requires : goal.sides-requires
 sides-requires c = omega (arith, below (goal.at.sides-requires c).After-face_start-start, c.requires.rounds.long)

@@ -1,17 +1,13 @@
 -- `building::writing::write_corners` meets its contract: the corners below `k` of the range are written, on all three axes.
 use mathlib.Core.Path.{◌≡◌, refl, sym, ◌∙◌}
-use Prim.Native.Nat.{ℕ, ◌+◌, ◌-◌, ◌*◌, ◌<◌, ◌≤◌}
+use Prim.Native.Nat.{ℕ, min, ◌+◌, ◌-◌, ◌<◌, ◌≤◌}
 use native.Mathlib.Omega.{arith}
 use borrow.Author.Rules.{rules}
 use mathlib.Core.List.{List}
-use lib.ListN.{length}
 use Rattle.paper.specs.Corners.{sum_of, first_of, sides_of}
-use Rattle.paper.specs.Mesh.{most_sides}
-use Rattle.paper.specs.Calls.{per_corner}
 use Rattle.mesh.proofs.Faces.{first_to, first_ends}
-use Rattle.net.specs.Drawn.{drawn}
-use Rattle.net.specs.stencil.Taken.{Run, Quiet}
-use Rattle.building.specs.writing.Written.{WalksFaces, NetsWritten}
+use Rattle.net.specs.stencil.Taken.{Run}
+use Rattle.building.specs.writing.Written.{WalksFaces}
 use Rattle.building.proofs.writing.Laws.{written_none, written_run, run_of, quiet_zeros}
 use Rattle.building.proofs.writing.write_corners.Goals as goal
 use Rattle.building.proofs.writing.write_corners.Goals.{In-loop-k, Start}
@@ -51,21 +47,20 @@ module _ (l : In-loop-k) (end : ℕ) (told : (sides : List ℕ) → WalksFaces s
       let f = (start l).requires.mesh.1 in
       (omega (arith, end_is, first_to f.sides (corner l) (listed l)), omega (arith, end_is, first_ends f.sides (corner l) (listed l), f.all))
 
-  run_is : (run : ℕ) → (run ≤ end - corner l) × ((run < (start l).args.count - l.loop-k.k → run ≡ end - corner l) × (run ≤ (start l).args.count - l.loop-k.k))
+  run_is : (run : ℕ) → run ≡ min (end - corner l) ((start l).args.count - l.loop-k.k)
       → (0 < run) × (l.loop-k.k + run ≤ (start l).args.count) × Run (start l).args.table.now (corner l) run
-  run_is run b =
+  run_is run e =
       let s = start l in
-      let p = past in
-      let some : run ≡ 0 → ⊥ = λ e. omega (arith, b.1.0 (omega (arith, below l)), p.0) in (
-        omega (arith, some),
-        omega (arith, b.1.1, below l),
-        run_of _ _ _ s.requires.mesh.0 s.requires.mesh.1 _ _ (corner_in l) (omega (arith, b.0, p.0, end_is)),
+      let p = past in (
+        omega (arith, e, p.0, below l),
+        omega (arith, e, below l),
+        run_of _ _ _ s.requires.mesh.0 s.requires.mesh.1 _ _ (corner_in l) (omega (arith, e, p.0, end_is)),
       )
 
 pub put_run-requires : goal.put_run-requires
 put_run-requires c =
     let i = c.loop-k.invariant in
-    let q = run_is (goal.at.put_run-requires c).In-loop-k c.face_end.result c.face_end.ensures c.least-run.result c.least-run.ensures in record {
+    let q = run_is (goal.at.put_run-requires c).In-loop-k c.face_end.result c.face_end.ensures c.min-run.result c.min-run.ensures in record {
       mesh = (c.requires.mesh.0, omega (arith, q.1, c.requires.range.1), q.2);
       lent = (i.3, i.4, i.5);
       room = (q.0, omega (arith, q.1, i.1, c.requires.range.2));
@@ -74,25 +69,23 @@ put_run-requires c =
 
 pub overflow_add-k : goal.overflow_add-k
 overflow_add-k c =
-    omega (arith, (run_is (goal.at.overflow_add-k c).In-loop-k c.face_end.result c.face_end.ensures c.least-run.result c.least-run.ensures).1, c.ranges.count)
+    omega (arith, (run_is (goal.at.overflow_add-k c).In-loop-k c.face_end.result c.face_end.ensures c.min-run.result c.min-run.ensures).1, c.ranges.count)
 
 pub loop-k-preserved : goal.loop-k-preserved
 loop-k-preserved c =
-    let p = c in
     let i = c.loop-k.invariant in (
-      (run_is (goal.at.loop-k-preserved c).In-loop-k c.face_end.result c.face_end.ensures c.least-run.result c.least-run.ensures).1,
-      p.put_run.ensures.put.same ∙ i.1,
-      written_run _ _ _ _ _ _ i.2 p.put_run.ensures.put,
+      (run_is (goal.at.loop-k-preserved c).In-loop-k c.face_end.result c.face_end.ensures c.min-run.result c.min-run.ensures).1,
+      c.put_run.ensures.put.same ∙ i.1,
+      written_run _ _ _ _ _ _ i.2 c.put_run.ensures.put,
       omega (arith, i.3),
       omega (arith, i.4),
-      p.put_run.ensures.quiet,
+      c.put_run.ensures.quiet,
     )
 
 pub returns : goal.returns
 returns c =
-    let s = c in
     let l = c.loop-k in
-    let e : l.k ≡ s.args.count = omega arith in
+    let e : l.k ≡ c.args.count = omega arith in
     rw e at l.invariant.2
 
 pub overflow_sub-face_end : goal.overflow_sub-face_end
@@ -102,13 +95,13 @@ pub overflow_sub-count : goal.overflow_sub-count
 overflow_sub-count c = omega (arith, below (goal.at.overflow_sub-count c).In-loop-k)
 
 pub slice_bounds-put_run-end : goal.slice_bounds-put_run-end
-slice_bounds-put_run-end c = let l = c in sym l.loop-k.invariant.3
+slice_bounds-put_run-end c = sym c.loop-k.invariant.3
 
 pub slice_bounds-put_run-end-in-loop-k : goal.slice_bounds-put_run-end-in-loop-k
-slice_bounds-put_run-end-in-loop-k c = let l = c in sym l.loop-k.invariant.4
+slice_bounds-put_run-end-in-loop-k c = sym c.loop-k.invariant.4
 
 pub loop-k-smaller : goal.loop-k-smaller
-loop-k-smaller c = let q = run_is (goal.at.loop-k-smaller c).In-loop-k c.face_end.result c.face_end.ensures c.least-run.result c.least-run.ensures in omega (arith, q.0, q.1)
+loop-k-smaller c = let q = run_is (goal.at.loop-k-smaller c).In-loop-k c.face_end.result c.face_end.ensures c.min-run.result c.min-run.ensures in omega (arith, q.0, q.1)
 
 pub shape_of-out : goal.shape_of-out
 shape_of-out c = c.loop-k.invariant.1

@@ -1,17 +1,10 @@
 -- `building::writing::write_corners` meets its contract: the corners below `k` of the range are written, on all three axes.
-use mathlib.Core.Path.{◌≡◌, refl, sym, ◌∙◌}
-use Prim.Native.Nat.{ℕ, ◌+◌, ◌-◌, ◌*◌, ◌<◌, ◌≤◌}
-use native.Mathlib.Omega.{arith}
-use borrow.Author.Rules.{rules}
+use mathlib.Core.Path.{◌≡◌}
+use Prim.Native.Nat.{◌-◌, ◌≤◌}
 use lib.ListN.{length}
-use Rattle.paper.specs.Corners.{sum_of, first_of, sides_of}
-use Rattle.paper.specs.Mesh.{most_sides}
-use Rattle.paper.specs.Calls.{per_corner}
-use Rattle.mesh.proofs.Faces.{first_to, first_ends}
 use Rattle.net.specs.Drawn.{drawn}
-use Rattle.net.specs.stencil.Taken.{Run, Quiet}
+use Rattle.net.specs.stencil.Taken.{Quiet}
 use Rattle.building.specs.writing.Written.{NetsWritten}
-use Rattle.building.proofs.writing.Laws.{written_none, written_run, run_of, quiet_zeros}
 use Rattle.building.proofs.writing.write_corners.Given as goal
 
 abbrev pub invariant-loop-k : goal.invariant-loop-k

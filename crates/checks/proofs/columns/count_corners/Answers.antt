@@ -46,41 +46,5 @@ returns c = let l = c.loop-c in counted_done _ _ l.c (search rules) l.invariant.
 pub loop-c-init : goal.loop-c-init
 loop-c-init c = (omega arith, refl, counted_start _ _ c.requires.clear)
 
-pub overflow_cast-u : goal.overflow_cast-u
-overflow_cast-u c = omega (arith, c.type_inv.corners (d (goal.at.overflow_cast-u c).In-loop-c))
-
 pub overflow_mul-count : goal.overflow_mul-count
 overflow_mul-count c = omega (arith, c.type_inv.corners (d (goal.at.overflow_mul-count c).In-loop-c))
-
-pub overflow_add-count : goal.overflow_add-count
-overflow_add-count c = omega (arith, c.type_inv.corners (d (goal.at.overflow_add-count c).In-loop-c))
-
-pub offset_bounds-vertices-u : goal.offset_bounds-vertices-u
-offset_bounds-vertices-u c = omega (arith, c.type_inv.corners (d (goal.at.offset_bounds-vertices-u c).In-loop-c))
-
-pub bounds-vertices-u : goal.bounds-vertices-u
-bounds-vertices-u c = omega (arith, row (goal.at.bounds-vertices-u c).In-loop-c)
-
-pub overflow_mul-vertices : goal.overflow_mul-vertices
-overflow_mul-vertices c = omega (arith, c.type_inv.corners (d (goal.at.overflow_mul-vertices c).In-loop-c))
-
-pub overflow_add-vertices-in-loop-c : goal.overflow_add-vertices-in-loop-c
-overflow_add-vertices-in-loop-c c = omega (arith, c.type_inv.corners (d (goal.at.overflow_add-vertices-in-loop-c c).In-loop-c))
-
-pub offset_bounds-vertices-u-in-loop-c : goal.offset_bounds-vertices-u-in-loop-c
-offset_bounds-vertices-u-in-loop-c c = omega (arith, c.type_inv.corners (d (goal.at.offset_bounds-vertices-u-in-loop-c c).In-loop-c))
-
-pub bounds-vertices-u-in-loop-c : goal.bounds-vertices-u-in-loop-c
-bounds-vertices-u-in-loop-c c = omega (arith, row (goal.at.bounds-vertices-u-in-loop-c c).In-loop-c)
-
-pub overflow_mul-vertices-in-loop-c : goal.overflow_mul-vertices-in-loop-c
-overflow_mul-vertices-in-loop-c c = omega (arith, c.type_inv.corners (d (goal.at.overflow_mul-vertices-in-loop-c c).In-loop-c))
-
-pub overflow_add-vertices-in-loop-c-2 : goal.overflow_add-vertices-in-loop-c-2
-overflow_add-vertices-in-loop-c-2 c = omega (arith, c.type_inv.corners (d (goal.at.overflow_add-vertices-in-loop-c-2 c).In-loop-c))
-
-pub offset_bounds-vertices-u-in-loop-c-2 : goal.offset_bounds-vertices-u-in-loop-c-2
-offset_bounds-vertices-u-in-loop-c-2 c = omega (arith, c.type_inv.corners (d (goal.at.offset_bounds-vertices-u-in-loop-c-2 c).In-loop-c))
-
-pub bounds-vertices-u-in-loop-c-2 : goal.bounds-vertices-u-in-loop-c-2
-bounds-vertices-u-in-loop-c-2 c = simp length-set (omega (arith, row (goal.at.bounds-vertices-u-in-loop-c-2 c).In-loop-c))

@@ -7,6 +7,3 @@ use Rattle.checks.proofs.columns.count_corners.Given as goal
 
 abbrev pub invariant-loop-c : goal.invariant-loop-c
 invariant-loop-c l = (l.c ≤ length l.corners) × (length l.vertices ≡ length l.initial.vertices) × CountedFrom l.corners l.vertices l.c
-
-abbrev pub decreases-loop-c : goal.decreases-loop-c
-decreases-loop-c l = l.c

@@ -1,15 +1,14 @@
 -- `entry` meets its contract: the columns name the first corner that the leaving edge leaves, and a corner of the vertex where its
 -- reverse arrives, if there is one.
 use mathlib.Core.Path.{◌≡◌}
-use Prim.Native.Nat.{ℕ, ◌+◌, ◌-◌, ◌*◌, ◌<◌, ◌≤◌}
+use Prim.Native.Nat.{ℕ, ◌+◌, ◌-◌, ◌<◌, ◌≤◌}
 use lib.ListN.{length}
 use Rattle.paper.specs.Mesh.{most_corners}
 use Rattle.paper.specs.Links.{vertex_of}
 use Rattle.walk.specs.Table.{to_next, entry}
-use Rattle.checks.specs.columns.Vertices.{vertex_row, leaving_here, arriving_here, noted, HasRow}
+use Rattle.checks.specs.columns.Vertices.{leaving_here, arriving_here, noted, HasRow}
 use Rattle.checks.specs.edges.Entries.{repeated, alone, to, EntryFor}
 use Rattle.checks.proofs.edges.Faults.{entry_again, entry_single, entry_joined}
-use native.Mathlib.Omega.{arith}
 use Rattle.checks.proofs.edges.entry.Goals as goal
 use Rattle.checks.proofs.edges.entry.Goals.{Start}
 
@@ -47,67 +46,11 @@ returns c =
     entry_joined _ _ _ c.args.u _ c.requires.corner.0 c.requires.corner.1 c.requires.marked sides e c.if-first-c.false
     c.if-e-eq0.false c.if-corners-d.false
 
-pub bounds-corners-d : goal.bounds-corners-d
-bounds-corners-d c =
-    let s : Start = (goal.at.bounds-corners-d c).Start in
-    let n : noted s.args.vertices.now arriving_here (far s) ≡ 0 → ⊥ = c.if-e-eq0.false in
-    omega (arith, n, s.requires.marked.keyed.arrived.inside (far s) n)
-
-pub overflow_cast-corners : goal.overflow_cast-corners
-overflow_cast-corners c =
-    let s : Start = (goal.at.overflow_cast-corners c).Start in
-    omega (arith, c.type_inv.corners (noted s.args.vertices.now arriving_here (far s) - 1))
-
-pub overflow_cast-next : goal.overflow_cast-next
-overflow_cast-next c = omega (arith, small (goal.at.overflow_cast-next c).Start, next_in (goal.at.overflow_cast-next c).Start)
-
-pub offset_bounds-corners-next : goal.offset_bounds-corners-next
-offset_bounds-corners-next c = omega (arith, small (goal.at.offset_bounds-corners-next c).Start, next_in (goal.at.offset_bounds-corners-next c).Start)
-
-pub bounds-corners-next : goal.bounds-corners-next
-bounds-corners-next c = omega (arith, small (goal.at.bounds-corners-next c).Start, next_in (goal.at.bounds-corners-next c).Start)
-
-pub overflow_cast-to : goal.overflow_cast-to
-overflow_cast-to c = omega (arith, c.type_inv.corners (next (goal.at.overflow_cast-to c).Start))
-
-pub overflow_mul-first : goal.overflow_mul-first
-overflow_mul-first c = omega (arith, c.type_inv.corners (next (goal.at.overflow_mul-first c).Start))
-
-pub overflow_add-first : goal.overflow_add-first
-overflow_add-first c = omega (arith, c.type_inv.corners (next (goal.at.overflow_add-first c).Start))
-
-pub offset_bounds-vertices-to : goal.offset_bounds-vertices-to
-offset_bounds-vertices-to c = omega (arith, c.type_inv.corners (next (goal.at.offset_bounds-vertices-to c).Start))
-
-pub bounds-vertices-to : goal.bounds-vertices-to
-bounds-vertices-to c = omega (arith, row (goal.at.bounds-vertices-to c).Start)
-
-pub overflow_cast-first : goal.overflow_cast-first
-overflow_cast-first c = omega (arith, c.type_inv.vertices (vertex_row * (far (goal.at.overflow_cast-first c).Start) + leaving_here))
-
 pub returns-then-first-c : goal.returns-then-first-c
 returns-then-first-c c = again_at (goal.at.returns-then-first-c c).Start c.if-first-c.true
 
-pub overflow_mul-e : goal.overflow_mul-e
-overflow_mul-e c = omega (arith, c.type_inv.corners (next (goal.at.overflow_mul-e c).Start))
-
-pub overflow_add-e : goal.overflow_add-e
-overflow_add-e c = omega (arith, c.type_inv.corners (next (goal.at.overflow_add-e c).Start))
-
-pub offset_bounds-vertices-to-2 : goal.offset_bounds-vertices-to-2
-offset_bounds-vertices-to-2 c = omega (arith, c.type_inv.corners (next (goal.at.offset_bounds-vertices-to-2 c).Start))
-
-pub bounds-vertices-to-2 : goal.bounds-vertices-to-2
-bounds-vertices-to-2 c = omega (arith, row (goal.at.bounds-vertices-to-2 c).Start)
-
 pub returns-then-e-eq0 : goal.returns-then-e-eq0
 returns-then-e-eq0 c = single_at (goal.at.returns-then-e-eq0 c).Start c.if-first-c.false (λ n v. n c.if-e-eq0.true)
-
-pub overflow_cast-d : goal.overflow_cast-d
-overflow_cast-d c = omega (arith, c.type_inv.vertices (vertex_row * (far (goal.at.overflow_cast-d c).Start) + arriving_here))
-
-pub offset_bounds-corners-d : goal.offset_bounds-corners-d
-offset_bounds-corners-d c = omega (arith, c.type_inv.vertices (vertex_row * (far (goal.at.offset_bounds-corners-d c).Start) + arriving_here))
 
 pub returns-then-corners-d : goal.returns-then-corners-d
 returns-then-corners-d c = single_at (goal.at.returns-then-corners-d c).Start c.if-first-c.false (λ n v. c.if-corners-d.true v)

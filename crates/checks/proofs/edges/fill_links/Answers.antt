@@ -22,20 +22,6 @@ loop-u-init c =
       c.requires.walk.2,
     )
 
-pub mark-n-requires : goal.mark-n-requires
-mark-n-requires c =
-    let taken = c.loop-u-test.true in
-    record {
-      walk = (c.loop-u.invariant.3, omega (arith, c.requires.vertices.1, c.loop-u.invariant.2, taken), c.loop-u.invariant.5);
-      last = c.loop-u.invariant.10 c.loop-u.u (omega arith);
-      keyed = c.loop-u.invariant.4;
-    }
-
-pub collect-requires : goal.collect-requires
-collect-requires c =
-    let k = searchable_on _ c.loop-u.table c.loop-u.table (faces_same c.loop-u.table) c.loop-u.vertices _ refl c.mark-n.auto.vertices c.loop-u.invariant.3 in
-    record { walk = (k, c.loop-u.invariant.5, c.loop-u.invariant.10 c.loop-u.u (omega arith)); marked = (c.mark-n.ensures.marks, c.mark-n.ensures.count.0) }
-
 pub loop-u-preserved : goal.loop-u-preserved
 loop-u-preserved c =
     let taken = c.loop-u-test.true in

@@ -99,11 +99,6 @@ loop-at-preserved c =
           (passed_more (cs i) u l.at l.n l.lowest (some i) l.invariant.0 l.invariant.4),
     )
 
-pub bounds-vertices-u-2 : goal.bounds-vertices-u-2
-bounds-vertices-u-2 c =
-    let l = c.loop-at in
-    simp length-set (omega (arith, c.requires.walk.1, l.invariant.1))
-
 pub returns : goal.returns
 returns c =
     let l = c.loop-at in
@@ -119,89 +114,5 @@ returns c =
 pub overflow_add-n : goal.overflow_add-n
 overflow_add-n c = let i : In-loop-at = (goal.at.overflow_add-n c).In-loop-at in omega (arith, passed_few _ _ _ _ _ i.loop-at.invariant.4, small i)
 
-pub overflow_cast-d : goal.overflow_cast-d
-overflow_cast-d c = omega (arith, few (goal.at.overflow_cast-d c).In-loop-at)
-
-pub overflow_mul-next : goal.overflow_mul-next
-overflow_mul-next c = omega (arith, few (goal.at.overflow_mul-next c).In-loop-at)
-
-pub overflow_add-next : goal.overflow_add-next
-overflow_add-next c = omega (arith, few (goal.at.overflow_add-next c).In-loop-at)
-
-pub offset_bounds-table-d : goal.offset_bounds-table-d
-offset_bounds-table-d c = omega (arith, few (goal.at.offset_bounds-table-d c).In-loop-at)
-
-pub bounds-table-d : goal.bounds-table-d
-bounds-table-d c = omega (arith, row (goal.at.bounds-table-d c).In-loop-at)
-
-pub overflow_cast-next : goal.overflow_cast-next
-overflow_cast-next c = omega (arith, small (goal.at.overflow_cast-next c).In-loop-at, next_in (goal.at.overflow_cast-next c).In-loop-at)
-
-pub offset_bounds-corners-next : goal.offset_bounds-corners-next
-offset_bounds-corners-next c = omega (arith, small (goal.at.offset_bounds-corners-next c).In-loop-at, next_in (goal.at.offset_bounds-corners-next c).In-loop-at)
-
-pub bounds-corners-next : goal.bounds-corners-next
-bounds-corners-next c = omega (arith, next_in (goal.at.bounds-corners-next c).In-loop-at)
-
-pub overflow_cast-to : goal.overflow_cast-to
-overflow_cast-to c = omega (arith, c.type_inv.corners (next (goal.at.overflow_cast-to c).In-loop-at))
-
-pub overflow_mul-vertices : goal.overflow_mul-vertices
-overflow_mul-vertices c = omega (arith, c.type_inv.corners (next (goal.at.overflow_mul-vertices c).In-loop-at))
-
 pub overflow_add-vertices : goal.overflow_add-vertices
 overflow_add-vertices c = omega (arith, c.type_inv.corners (next (goal.at.overflow_add-vertices c).In-loop-at))
-
-pub offset_bounds-vertices-to : goal.offset_bounds-vertices-to
-offset_bounds-vertices-to c = omega (arith, c.type_inv.corners (next (goal.at.offset_bounds-vertices-to c).In-loop-at))
-
-pub bounds-vertices-to : goal.bounds-vertices-to
-bounds-vertices-to c = omega (arith, to_row (goal.at.bounds-vertices-to c).In-loop-at)
-
-pub overflow_mul-previous : goal.overflow_mul-previous
-overflow_mul-previous c = omega (arith, few (goal.at.overflow_mul-previous c).In-loop-at)
-
-pub overflow_add-previous : goal.overflow_add-previous
-overflow_add-previous c = omega (arith, few (goal.at.overflow_add-previous c).In-loop-at)
-
-pub offset_bounds-table-d-in-loop-at : goal.offset_bounds-table-d-in-loop-at
-offset_bounds-table-d-in-loop-at c = omega (arith, few (goal.at.offset_bounds-table-d-in-loop-at c).In-loop-at)
-
-pub bounds-table-d-in-loop-at : goal.bounds-table-d-in-loop-at
-bounds-table-d-in-loop-at c = omega (arith, row (goal.at.bounds-table-d-in-loop-at c).In-loop-at)
-
-pub overflow_cast-previous : goal.overflow_cast-previous
-overflow_cast-previous c = omega (arith, small (goal.at.overflow_cast-previous c).In-loop-at, previous_in (goal.at.overflow_cast-previous c).In-loop-at)
-
-pub offset_bounds-corners-previous : goal.offset_bounds-corners-previous
-offset_bounds-corners-previous c = omega (arith, small (goal.at.offset_bounds-corners-previous c).In-loop-at, previous_in (goal.at.offset_bounds-corners-previous c).In-loop-at)
-
-pub bounds-corners-previous : goal.bounds-corners-previous
-bounds-corners-previous c = omega (arith, previous_in (goal.at.bounds-corners-previous c).In-loop-at)
-
-pub overflow_cast-from : goal.overflow_cast-from
-overflow_cast-from c = omega (arith, c.type_inv.corners (previous (goal.at.overflow_cast-from c).In-loop-at))
-
-pub overflow_mul-vertices-in-loop-at : goal.overflow_mul-vertices-in-loop-at
-overflow_mul-vertices-in-loop-at c = omega (arith, c.type_inv.corners (previous (goal.at.overflow_mul-vertices-in-loop-at c).In-loop-at))
-
-pub overflow_add-vertices-in-loop-at : goal.overflow_add-vertices-in-loop-at
-overflow_add-vertices-in-loop-at c = omega (arith, c.type_inv.corners (previous (goal.at.overflow_add-vertices-in-loop-at c).In-loop-at))
-
-pub offset_bounds-vertices-from : goal.offset_bounds-vertices-from
-offset_bounds-vertices-from c = omega (arith, c.type_inv.corners (previous (goal.at.offset_bounds-vertices-from c).In-loop-at))
-
-pub bounds-vertices-from : goal.bounds-vertices-from
-bounds-vertices-from c = simp length-set (omega (arith, from_row (goal.at.bounds-vertices-from c).In-loop-at))
-
-pub overflow_mul-at : goal.overflow_mul-at
-overflow_mul-at c = omega (arith, few (goal.at.overflow_mul-at c).In-loop-at)
-
-pub overflow_add-at : goal.overflow_add-at
-overflow_add-at c = omega (arith, few (goal.at.overflow_add-at c).In-loop-at)
-
-pub offset_bounds-table-d-in-loop-at-2 : goal.offset_bounds-table-d-in-loop-at-2
-offset_bounds-table-d-in-loop-at-2 c = omega (arith, few (goal.at.offset_bounds-table-d-in-loop-at-2 c).In-loop-at)
-
-pub bounds-table-d-in-loop-at-2 : goal.bounds-table-d-in-loop-at-2
-bounds-table-d-in-loop-at-2 c = omega (arith, row (goal.at.bounds-table-d-in-loop-at-2 c).In-loop-at)

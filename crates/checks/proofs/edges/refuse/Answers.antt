@@ -10,16 +10,16 @@ use Rattle.checks.proofs.edges.refuse.Goals as goal
 
 pub returns-then-table-c : goal.returns-then-table-c
 returns-then-table-c c =
-    sym (lowest_hit c.args.number c.args.count (has c.args.table.now c.args.x) c.loop-c.c (search rules) (eq-eqb _ _ c.if-table-c.true) c.loop-c.invariant.1)
+    sym (lowest_hit c.args.number c.args.count (has c.args.table.now c.args.x) c.loop-c.c (search rules) (eq-eqb _ _ c.if-table-c.true) c.loop-c.invariant)
 
 pub loop-c-preserved : goal.loop-c-preserved
 loop-c-preserved c =
-    (search rules, fails_step (has c.args.table.now c.args.x) c.loop-c.c c.loop-c.invariant.1 (ne_eqb _ _ c.if-table-c.false))
+    fails_step (has c.args.table.now c.args.x) c.loop-c.c c.loop-c.invariant (ne_eqb _ _ c.if-table-c.false)
 
 pub returns : goal.returns
 returns c =
     let l = c.loop-c in
-    sym (lowest_none c.args.number c.args.count (has c.args.table.now c.args.x) (λ j h. l.invariant.1 j (omega arith)))
+    sym (lowest_none c.args.number c.args.count (has c.args.table.now c.args.x) (λ j h. l.invariant j (omega arith)))
 
 pub loop-c-init : goal.loop-c-init
-loop-c-init c = (omega arith, λ j l. absurd (omega arith))
+loop-c-init c = λ j l. absurd (omega arith)

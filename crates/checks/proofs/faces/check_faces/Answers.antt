@@ -19,28 +19,28 @@ use Rattle.checks.proofs.faces.Laws.{FacesPassed, passed_none, passed_kept, pass
 use native.Mathlib.Omega.{arith}
 use borrow.Author.Rules.{rules}
 use Rattle.checks.proofs.faces.check_faces.Goals as goal
-use Rattle.checks.proofs.faces.check_faces.Goals.{In-loop-f, In-loop-c}
+use Rattle.checks.proofs.faces.check_faces.Goals.{In-loop-s, In-loop-c}
 
-pub loop-f-init : goal.loop-f-init
-loop-f-init c =
+pub loop-s-init : goal.loop-s-init
+loop-s-init c =
     (omega arith, sym (start_zero _), refl, refl, passed_none _ _ _ _ c.requires.room.2, subst (FacesTo _ _) (start_zero _) (faces_none _ _))
 
 -- in a turn over the faces: face f is there, and ends within the corners
-module _ (i : In-loop-f) where
+module _ (i : In-loop-s) where
   abbrev sides : List ℕ
   sides = i.args.sides.now
 
   abbrev corners : List ℕ
   corners = i.args.corners.now
 
-  there : i.loop-f.f < length sides
+  there : i.loop-s.s-index < length sides
   there = search rules
 
-  ends : start_of sides i.loop-f.f + get_or sides i.loop-f.f 0 ≤ sum_of sides
-  ends = start_ends sides i.loop-f.f there
+  ends : start_of sides i.loop-s.s-index + get_or sides i.loop-s.s-index 0 ≤ sum_of sides
+  ends = start_ends sides i.loop-s.s-index there
 
-  sided : least_sides ≤ get_or sides i.loop-f.f 0
-  sided = i.requires.mesh.2 i.loop-f.f there
+  sided : least_sides ≤ get_or sides i.loop-s.s-index 0
+  sided = i.requires.mesh.2 i.loop-s.s-index there
 
   within : (sum_of sides ≡ length corners) × (length corners ≤ most_corners)
   within = (i.requires.mesh.0, i.requires.mesh.1)
@@ -51,15 +51,15 @@ module _ (i : In-loop-c) where
   here = omega (arith, i.loop-c.invariant.3)
 
   long : row_length * length i.args.corners.now ≤ length i.loop-c.table
-  long = omega (arith, i.loop-f.invariant.2, i.loop-c.invariant.6, i.requires.room.0)
+  long = omega (arith, i.loop-s.invariant.2, i.loop-c.invariant.6, i.requires.room.0)
 
   row : HasRow i.loop-c.vertices (vertex_of i.args.corners.now i.loop-c.c)
-  row = omega (arith, i.loop-f.invariant.3, i.loop-c.invariant.7, i.requires.room.1 i.loop-c.c here)
+  row = omega (arith, i.loop-s.invariant.3, i.loop-c.invariant.7, i.requires.room.1 i.loop-c.c here)
 
 pub loop-c-init : goal.loop-c-init
 loop-c-init c =
-    let i : In-loop-f = (goal.at.loop-c-init c).In-loop-f in
-    let o = i.loop-f in (
+    let i : In-loop-s = (goal.at.loop-c-init c).In-loop-s in
+    let o = i.loop-s in (
       there i,
       o.invariant.1,
       refl,
@@ -71,42 +71,28 @@ loop-c-init c =
       o.invariant.4,
       (
         omega (arith, ends i, sided i, o.invariant.1),
-        (λ z. rw o.invariant.1 (sym (previous_start (sides i) o.f (there i) (omega (arith, sided i))))),
+        (λ z. rw o.invariant.1 (sym (previous_start (sides i) o.s-index (there i) (omega (arith, sided i))))),
         o.invariant.5,
       ),
     )
 
-pub overflow_cast-last : goal.overflow_cast-last
-overflow_cast-last c =
-    omega (arith, c.type_inv.vertices (vertex_row * vertex_of c.args.corners.now c.loop-c.c + last_here))
-
 pub returns-then-start-last : goal.returns-then-start-last
 returns-then-start-last c =
     let j : In-loop-c = (goal.at.returns-then-start-last c).In-loop-c in
-    let i : In-loop-f = (goal.at.returns-then-start-last c).In-loop-f in
+    let i : In-loop-s = (goal.at.returns-then-start-last c).In-loop-s in
     let l = j.loop-c in record {
-      answer = sym (doubled (sides i) (corners i) l.table l.vertices i.loop-f.f l.c i.loop-f.start
+      answer = sym (doubled (sides i) (corners i) l.table l.vertices i.loop-s.s-index l.c i.loop-s.start
           l.invariant.0 l.invariant.1 l.invariant.4 (search rules) l.invariant.8 (here j) c.if-start-last.true);
       chains = unsound _ _;
       faces = unsound _ _;
     }
 
-pub put_corner-requires : goal.put_corner-requires
-put_corner-requires c =
-    let j : In-loop-c = (goal.at.put_corner-requires c).In-loop-c in
-    let w = within (goal.at.put_corner-requires c).In-loop-f in
-    let l = j.loop-c in (
-      (omega (arith, here j, w), omega (arith, here j, long j)),
-      (omega (arith, l.invariant.9.0, w), omega (arith, l.invariant.9.0, w, long j)),
-      omega (arith, l.invariant.2, l.invariant.3, w),
-    )
-
 pub loop-c-preserved : goal.loop-c-preserved
 loop-c-preserved c =
     let j : In-loop-c = (goal.at.loop-c-preserved c).In-loop-c in
-    let i : In-loop-f = (goal.at.loop-c-preserved c).In-loop-f in
+    let i : In-loop-s = (goal.at.loop-c-preserved c).In-loop-s in
     let l = j.loop-c in
-    let f = i.loop-f.f in
+    let f = i.loop-s.s-index in
     let taken = c.loop-c-test.true in
     let b : l.c < sum_of (sides i) = omega (arith, within i, here j) in
     let n = get_or (sides i) f 0 in
@@ -128,7 +114,7 @@ loop-c-preserved c =
       simp length-set (c.put_corner.auto.table ∙ l.invariant.6),
       simp length-set l.invariant.7,
       subst (λ (y : List ℕ). FacesPassed (sides i) (corners i) y (set l.vertices (vertex_row * get_or (corners i) l.c 0 + last_here) (l.c + 1)) (l.c + 1)) e
-          (passed_step (sides i) (corners i) t l.vertices f l.c i.loop-f.start l.invariant.0 l.invariant.1 l.invariant.4
+          (passed_step (sides i) (corners i) t l.vertices f l.c i.loop-s.start l.invariant.0 l.invariant.1 l.invariant.4
           (omega (arith, l.invariant.2, taken)) q (omega (arith, here j, long j, size)) (omega (arith, row j)) c.if-start-last.false),
       (
         b,
@@ -138,14 +124,14 @@ loop-c-preserved c =
       ),
     )
 
-pub loop-f-preserved : goal.loop-f-preserved
-loop-f-preserved c =
-    let i : In-loop-f = (goal.at.loop-f-preserved c).In-loop-f in
-    let o = i.loop-f in
+pub loop-s-preserved : goal.loop-s-preserved
+loop-s-preserved c =
+    let i : In-loop-s = (goal.at.loop-s-preserved c).In-loop-s in
+    let o = i.loop-s in
     let l = c.loop-c in
-    let q : l.c ≡ o.start + get_or (sides i) o.f 0 = omega (arith, l.invariant.5, c.loop-c-test.false) in (
+    let q : l.c ≡ o.start + get_or (sides i) o.s-index 0 = omega (arith, l.invariant.5, c.loop-c-test.false) in (
       search rules,
-      omega (arith, l.invariant.1, start_next (sides i) o.f l.invariant.0),
+      omega (arith, l.invariant.1, start_next (sides i) o.s-index l.invariant.0),
       l.invariant.6 ∙ o.invariant.2,
       l.invariant.7 ∙ o.invariant.3,
       subst (FacesPassed (sides i) (corners i) l.table l.vertices) q l.invariant.8,
@@ -154,51 +140,15 @@ loop-f-preserved c =
 
 pub returns : goal.returns
 returns c =
-    let l = c.loop-f in
+    let l = c.loop-s in
     let ss = c.args.sides.now in
     let cs = c.args.corners.now in
-    let all = l.invariant.1 ∙ start_all ss l.f c.loop-f-test.false in
+    let all = l.invariant.1 ∙ start_all ss l.s-index c.loop-s-test.false in
     let q : l.start ≡ length cs = all ∙ c.requires.mesh.0 in record {
       answer = sym (lowest_none 9 (length cs) (fault9 ss cs) (λ j h. l.invariant.4.faultless j (omega (arith, q))));
       chains = λ e. chains_all cs l.table l.vertices l.start q l.invariant.4.chains;
       faces = λ e. faces_all ss l.table l.start all l.invariant.5;
     }
 
-pub overflow_cast-count : goal.overflow_cast-count
-overflow_cast-count c = omega (arith, c.type_inv.sides c.loop-f.f)
-
 pub overflow_add-end : goal.overflow_add-end
-overflow_add-end c = omega (arith, within (goal.at.overflow_add-end c).In-loop-f, ends (goal.at.overflow_add-end c).In-loop-f)
-
-pub overflow_sub-before : goal.overflow_sub-before
-overflow_sub-before c = omega (arith, sided (goal.at.overflow_sub-before c).In-loop-f)
-
-pub overflow_cast-u : goal.overflow_cast-u
-overflow_cast-u c = omega (arith, c.type_inv.corners c.loop-c.c)
-
-pub overflow_mul-last : goal.overflow_mul-last
-overflow_mul-last c = omega (arith, c.type_inv.corners c.loop-c.c)
-
-pub overflow_add-last : goal.overflow_add-last
-overflow_add-last c = omega (arith, c.type_inv.corners c.loop-c.c)
-
-pub offset_bounds-vertices-u : goal.offset_bounds-vertices-u
-offset_bounds-vertices-u c = omega (arith, c.type_inv.corners c.loop-c.c)
-
-pub bounds-vertices-u : goal.bounds-vertices-u
-bounds-vertices-u c = omega (arith, row (goal.at.bounds-vertices-u c).In-loop-c)
-
-pub bounds-table-c : goal.bounds-table-c
-bounds-table-c c = omega (arith, here (goal.at.bounds-table-c c).In-loop-c, long (goal.at.bounds-table-c c).In-loop-c, c.put_corner.auto.table)
-
-pub overflow_mul-vertices : goal.overflow_mul-vertices
-overflow_mul-vertices c = omega (arith, c.type_inv.corners c.loop-c.c)
-
-pub overflow_add-vertices-in-loop-c : goal.overflow_add-vertices-in-loop-c
-overflow_add-vertices-in-loop-c c = omega (arith, c.type_inv.corners c.loop-c.c)
-
-pub offset_bounds-vertices-u-in-loop-c : goal.offset_bounds-vertices-u-in-loop-c
-offset_bounds-vertices-u-in-loop-c c = omega (arith, c.type_inv.corners c.loop-c.c)
-
-pub bounds-vertices-u-in-loop-c : goal.bounds-vertices-u-in-loop-c
-bounds-vertices-u-in-loop-c c = omega (arith, row (goal.at.bounds-vertices-u-in-loop-c c).In-loop-c)
+overflow_add-end c = omega (arith, within (goal.at.overflow_add-end c).In-loop-s, ends (goal.at.overflow_add-end c).In-loop-s)

@@ -9,28 +9,24 @@ use Rattle.paper.specs.Calls.{fault15}
 use Rattle.walk.specs.Table.{to_link, entry}
 use Rattle.checks.proofs.requests.Laws.{links_differ, links_agree}
 use native.Mathlib.Omega.{arith}
-use borrow.Author.Rules.{rules}
 use Rattle.checks.proofs.requests.find_link.Goals as goal
 
-pub returns-then-links-c : goal.returns-then-links-c
-returns-then-links-c c =
+pub returns-then-link-table : goal.returns-then-link-table
+returns-then-link-table c =
     λ M e t. let h : c.loop-c.c < corner_count M = omega arith in
     sym (lowest_hit 15 (corner_count M) (fault15 M c.args.links.now) c.loop-c.c h
-    (links_differ M c.args.table.now c.args.links.now t c.loop-c.c h c.if-links-c.true)
-    (λ j k. links_agree M c.args.table.now c.args.links.now t j (omega arith) (c.loop-c.invariant.1 j k)))
+    (links_differ M c.args.table.now c.args.links.now t c.loop-c.c h c.if-link-table.true)
+    (λ j k. links_agree M c.args.table.now c.args.links.now t j (omega arith) (c.loop-c.invariant j k)))
 
 pub loop-c-preserved : goal.loop-c-preserved
 loop-c-preserved c =
-    (search rules, below_more (λ j. get_or c.args.links.now j 0 ≡ entry c.args.table.now to_link j) c.loop-c.c c.loop-c.invariant.1 c.if-links-c.false)
+    below_more (λ j. get_or c.args.links.now j 0 ≡ entry c.args.table.now to_link j) c.loop-c.c c.loop-c.invariant c.if-link-table.false
 
 pub returns : goal.returns
 returns c =
     let l = c.loop-c in
     λ M e t. sym (lowest_none 15 (corner_count M) (fault15 M c.args.links.now)
-    (λ j k. links_agree M c.args.table.now c.args.links.now t j k (l.invariant.1 j (omega arith))))
+    (λ j k. links_agree M c.args.table.now c.args.links.now t j k (l.invariant j (omega arith))))
 
 pub loop-c-init : goal.loop-c-init
-loop-c-init c = (omega arith, λ j h. absurd (omega arith))
-
-pub bounds-table-c : goal.bounds-table-c
-bounds-table-c = (omega arith)
+loop-c-init c = λ j h. absurd (omega arith)

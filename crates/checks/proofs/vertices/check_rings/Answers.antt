@@ -1,6 +1,5 @@
 -- Check 13 meets its contract: no vertex before `u` is at fault.
-use Prim.Native.Nat.{◌+◌, ◌*◌, ◌<◌}
-use Rattle.checks.specs.columns.Vertices.{vertex_row, count_here, lowest_here}
+use Prim.Native.Nat.{◌<◌}
 use Rattle.checks.proofs.vertices.Laws.{whole_none, whole_more, whole_torn, whole_all, lowest_in}
 use native.Mathlib.Omega.{arith}
 use borrow.Author.Rules.{rules}
@@ -15,27 +14,19 @@ ring-len-requires c =
 pub returns-then-len-n : goal.returns-then-len-n
 returns-then-len-n c =
     let h : c.loop-u.u < c.args.count = search rules in
-    whole_torn c.args.corners.now c.args.table.now c.loop-u.u c.args.count c.loop-u.invariant.1 c.requires.links.1 h c.args.vertices.now c.requires.counted.2
+    whole_torn c.args.corners.now c.args.table.now c.loop-u.u c.args.count c.loop-u.invariant c.requires.links.1 h c.args.vertices.now c.requires.counted.2
     c.ring-len.result c.ring-len.ensures c.if-len-n.true
 
 pub loop-u-preserved : goal.loop-u-preserved
 loop-u-preserved c =
-    let h : c.loop-u.u < c.args.count = search rules in (
-      search rules,
-      whole_more c.args.corners.now c.args.table.now c.loop-u.u c.args.count c.loop-u.invariant.1 c.requires.links.1 h c.args.vertices.now c.requires.counted.2
-          c.ring-len.result c.ring-len.ensures c.if-len-n.false,
-    )
+    let h : c.loop-u.u < c.args.count = search rules in
+    whole_more c.args.corners.now c.args.table.now c.loop-u.u c.args.count c.loop-u.invariant c.requires.links.1 h c.args.vertices.now c.requires.counted.2
+    c.ring-len.result c.ring-len.ensures c.if-len-n.false
 
 pub returns : goal.returns
 returns c =
     let l = c.loop-u in
-    whole_all c.args.corners.now c.args.table.now l.u c.args.count l.invariant.1 c.loop-u-test.false
+    whole_all c.args.corners.now c.args.table.now l.u c.args.count l.invariant c.loop-u-test.false
 
 pub loop-u-init : goal.loop-u-init
-loop-u-init c = (omega arith, whole_none _ _)
-
-pub overflow_cast-n : goal.overflow_cast-n
-overflow_cast-n c = omega (arith, c.type_inv.vertices (vertex_row * c.loop-u.u + count_here))
-
-pub overflow_cast-lowest : goal.overflow_cast-lowest
-overflow_cast-lowest c = omega (arith, c.type_inv.vertices (vertex_row * c.loop-u.u + lowest_here))
+loop-u-init c = whole_none _ _

@@ -1,25 +1,6 @@
--- After i turns the first i values stand in the space and the others are as they were.
-use mathlib.Core.Path.{refl}
-use native.Mathlib.Omega.{arith}
-use lib.ListN.{length-set}
-use borrow.Author.Rules.{rules}
-use Rattle.paper.specs.File.{side_in}
-use Rattle.mesh.proofs.Fills.{filled_none, filled_step, filled_all}
+-- The bytes copied are the values that stand there.
+use Rattle.dms_lists.proofs.lists.Lists.{bytes_begin}
 use Rattle.dms_lists.proofs.lists.read_bytes.Goals as goal
 
-pub loop-i-init : goal.loop-i-init
-loop-i-init c =
-    let f = side_in c.args.file.now c.args.start in
-    (search rules, (refl, filled_none f c.args.out.now))
-
-pub loop-i-preserved : goal.loop-i-preserved
-loop-i-preserved c =
-    let f = side_in c.args.file.now c.args.start in
-    let l = c.loop-i in
-    (search rules, (rw length-set l.invariant.1.0, filled_step f c.args.out.now l.i l.out _ 0 (omega arith) l.invariant.1.1 (refl)))
-
 pub returns : goal.returns
-returns c =
-    let f = side_in c.args.file.now c.args.start in
-    let l = c.loop-i in
-    filled_all f c.args.out.now l.i c.args.count l.out (omega arith) l.invariant.1.1
+returns c = bytes_begin c.args.file.now c.args.start c.args.count c.args.out.now _ c.requires.0 c.copy_from_slice.ensures.after

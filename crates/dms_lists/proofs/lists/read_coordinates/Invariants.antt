@@ -1,13 +1,7 @@
 -- After i turns the first i values stand in the space and the others are as they were.
-use mathlib.Core.Path.{◌≡◌}
-use Prim.Native.Nat.{◌-◌, ◌≤◌}
-use lib.ListN.{length}
 use Rattle.paper.specs.File.{coordinate_in}
 use Rattle.mesh.proofs.Fills.{Filled}
 use Rattle.dms_lists.proofs.lists.read_coordinates.Given as goal
 
 abbrev pub invariant-loop-i : goal.invariant-loop-i
-invariant-loop-i l = (l.i ≤ l.count) × ((length l.out ≡ length l.initial.out) × Filled (coordinate_in l.file) l.initial.out l.i l.out)
-
-abbrev pub decreases-loop-i : goal.decreases-loop-i
-decreases-loop-i l = l.count - l.i
+invariant-loop-i l = Filled (coordinate_in l.file) l.initial.out l.i l.out

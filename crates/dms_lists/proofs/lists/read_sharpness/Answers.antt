@@ -1,5 +1,6 @@
 -- In version 2 the bytes lie within the file, since the length asked of it includes them.
 use mathlib.Core.Path.{sym, ap, ◌∙◌}
+use borrow.Author.Rules.{rules}
 use Prim.Native.Nat.{ℕ, ◌*◌}
 use native.Mathlib.Omega.{arith}
 use Rattle.dms_lists.proofs.lists.Lists.{bytes_read, plain_read}
@@ -19,5 +20,5 @@ returns-then-is_sharp c =
 
 pub returns-else-is_sharp : goal.returns-else-is_sharp
 returns-else-is_sharp c =
-    plain_read _ _ _ _ (sym c.is_sharp.ensures ∙ c.if-is_sharp.false) (ap (λ (n : ℕ). 2 * n) c.corner_count-count.ensures.0)
-    c.fill_plain.ensures
+    plain_read _ _ c.args.out.now _ (sym c.is_sharp.ensures ∙ c.if-is_sharp.false) (ap (λ (k : ℕ). 2 * k) c.corner_count-count.ensures.0)
+    (search rules)

@@ -30,14 +30,5 @@ returns c =
     let q = c.round_small.result in
     small_answers (2 ^ 25) _ q ValueSize (search rules) (sum (search)) (pos 6) (fine (search)) (same c.args.x c.args.y c.args.v c.args.w) tt (inner_value c.args.x c.args.y c.args.v c.args.w q c.requires) c.round_small.ensures
 
-pub overflow_add-x : goal.overflow_add-x
-overflow_add-x c = search (fine c)
-
-pub overflow_mul-x : goal.overflow_mul-x
-overflow_mul-x c = search (fine c)
-
-pub overflow_add-x-2 : goal.overflow_add-x-2
-overflow_add-x-2 c = search (fine c)
-
 pub overflow_sub-x : goal.overflow_sub-x
 overflow_sub-x c = search (fine c)

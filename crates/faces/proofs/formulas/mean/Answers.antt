@@ -4,33 +4,21 @@ use Prim.Native.Nat.{◌^◌}
 use native.Mathlib.Omega.{arith}
 use borrow.Author.Rules.{rules}
 use lib.IntN.{pos}
-use lib.Signed.{le_z_yes, lt_z_yes}
 use mir.Syntax.{w32}
 use Rattle.surface.specs.Sizes.{RefinedSize}
 use Rattle.surface.proofs.Formulas.{mean_refined}
 use Rattle.faces.proofs.Sums.{Sum, arg, ◌⊕◌, SumHeld, holds, small_answers}
 use Rattle.faces.proofs.formulas.mean.Goals as goal
+use Rattle.faces.proofs.formulas.mean.Goals.{Start}
 
-module _ (c : goal.Start) where
+module _ (c : Start) where
   abbrev sum : Sum
   sum = arg c.args.a ⊕ arg c.args.b ⊕ arg c.args.c ⊕ arg c.args.d
 
   fine : SumHeld w32 (2 ^ 24) sum
   fine = holds w32 (2 ^ 24) sum (omega arith) (omega arith)
 
-pub round_small-requires : goal.round_small-requires
-round_small-requires c = (lt_z_yes tt, le_z_yes tt, omega (arith, (fine c).sized))
-
 pub returns : goal.returns
 returns c =
     let q = c.round_small.result in
     small_answers (2 ^ 24) _ q RefinedSize (search rules) (sum (search)) (pos 4) (fine (search)) refl tt (mean_refined c.args.a c.args.b c.args.c c.args.d q c.requires) c.round_small.ensures
-
-pub overflow_add-a : goal.overflow_add-a
-overflow_add-a c = search (fine c)
-
-pub overflow_add-a-2 : goal.overflow_add-a-2
-overflow_add-a-2 c = search (fine c)
-
-pub overflow_add-a-3 : goal.overflow_add-a-3
-overflow_add-a-3 c = search (fine c)

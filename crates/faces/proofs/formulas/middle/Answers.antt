@@ -30,35 +30,8 @@ returns c =
     let q = c.round_small.result in
     small_answers (2 ^ 25) _ q WrittenSize (search rules) (sum (search)) (pos 16) (fine (search)) (same c.args.n c.args.o c.args.g c.args.l c.args.x c.args.y c.args.h c.args.t) tt (middle_written c.args.n c.args.o c.args.g c.args.l c.args.x c.args.y c.args.h c.args.t q c.requires) c.round_small.ensures
 
-pub overflow_add-along : goal.overflow_add-along
-overflow_add-along c = search (fine c)
-
-pub overflow_mul-along : goal.overflow_mul-along
-overflow_mul-along c = search (fine c)
-
-pub overflow_add-along-2 : goal.overflow_add-along-2
-overflow_add-along-2 c = search (fine c)
-
-pub overflow_add-across : goal.overflow_add-across
-overflow_add-across c = search (fine c)
-
-pub overflow_add-across-2 : goal.overflow_add-across-2
-overflow_add-across-2 c = search (fine c)
-
-pub overflow_sub-across : goal.overflow_sub-across
-overflow_sub-across c = search (fine c)
-
-pub overflow_mul-along-2 : goal.overflow_mul-along-2
-overflow_mul-along-2 c = search (fine c)
-
-pub overflow_mul-across : goal.overflow_mul-across
-overflow_mul-across c = search (fine c)
-
 pub overflow_add-along-3 : goal.overflow_add-along-3
 overflow_add-along-3 c = search (fine c)
-
-pub overflow_add-h : goal.overflow_add-h
-overflow_add-h c = search (fine c)
 
 pub overflow_sub-along : goal.overflow_sub-along
 overflow_sub-along c = search (fine c)

@@ -12,8 +12,9 @@ use Rattle.surface.specs.Sizes.{WrittenSize}
 use Rattle.surface.proofs.Formulas.{third_written}
 use Rattle.faces.proofs.Sums.{Sum, arg, ◌⊕◌, ◌⊖◌, ◌⊗◌, SumHeld, holds, eighth_answers}
 use Rattle.faces.proofs.formulas.third.Goals as goal
+use Rattle.faces.proofs.formulas.third.Goals.{Start}
 
-module _ (c : goal.Start) where
+module _ (c : Start) where
   abbrev turned : Sum
   turned = arg c.args.t ⊖ arg c.args.y
 
@@ -26,26 +27,8 @@ module _ (c : goal.Start) where
 same : (a c t y s n : ℤ) → a *ℤ (pos 3 *ℤ y +ℤ s +ℤ pos 4 *ℤ n) +ℤ c *ℤ (t -ℤ y) ≡ (pos 3 *ℤ a -ℤ c) *ℤ y +ℤ c *ℤ t +ℤ pos 4 *ℤ a *ℤ n +ℤ a *ℤ s
 same = over 6 _ λ ρ. simp (poly, ρ) (omega arith)
 
-pub round_eighth-requires : goal.round_eighth-requires
-round_eighth-requires c = (rw (to_z-of_z c.ranges.c) c.requires.0, omega (arith, (fine c).0.sized), omega (arith, (fine c).1.sized))
-
 pub returns : goal.returns
 returns c =
     let q = c.round_eighth.result in
     eighth_answers (2 ^ 25) _ q WrittenSize (search rules) (turned (search)) (plain (search)) c.args.c _ (fine (search)).0 (fine (search)).1 (to_z-of_z c.ranges.c)
     (same (pos unit) c.args.c c.args.t c.args.y c.args.s c.args.n) (third_written c.args.c c.args.t c.args.y c.args.s c.args.n q c.requires) c.round_eighth.ensures
-
-pub overflow_sub-t : goal.overflow_sub-t
-overflow_sub-t c = search (fine c)
-
-pub overflow_mul-y : goal.overflow_mul-y
-overflow_mul-y c = search (fine c)
-
-pub overflow_add-y : goal.overflow_add-y
-overflow_add-y c = search (fine c)
-
-pub overflow_mul-n : goal.overflow_mul-n
-overflow_mul-n c = search (fine c)
-
-pub overflow_add-y-2 : goal.overflow_add-y-2
-overflow_add-y-2 c = search (fine c)

@@ -4,15 +4,15 @@ use Prim.Native.Nat.{◌^◌}
 use native.Mathlib.Omega.{arith}
 use borrow.Author.Rules.{rules}
 use lib.IntN.{ℤ, pos, ◌+ℤ◌, ◌*ℤ◌}
-use lib.Signed.{le_z_yes, lt_z_yes}
 use mir.Syntax.{w32}
 use Rattle.numbers.proofs.Poly.{over, poly}
 use Rattle.surface.specs.Sizes.{RefinedSize}
 use Rattle.surface.proofs.Formulas.{toward_of_three_refined}
 use Rattle.faces.proofs.Sums.{Sum, arg, ◌⊕◌, ◌⊗◌, SumHeld, holds, small_answers}
 use Rattle.faces.proofs.formulas.toward_of_three.Goals as goal
+use Rattle.faces.proofs.formulas.toward_of_three.Goals.{Start}
 
-module _ (c : goal.Start) where
+module _ (c : Start) where
   abbrev sum : Sum
   sum = 4 ⊗ (arg c.args.a ⊕ arg c.args.b) ⊕ arg c.args.c
 
@@ -22,19 +22,7 @@ module _ (c : goal.Start) where
 same : (a b c : ℤ) → pos 4 *ℤ (a +ℤ b) +ℤ c ≡ pos 4 *ℤ a +ℤ pos 4 *ℤ b +ℤ c
 same = over 3 _ λ ρ. simp (poly, ρ) (omega arith)
 
-pub round_small-requires : goal.round_small-requires
-round_small-requires c = (lt_z_yes tt, le_z_yes tt, omega (arith, (fine c).sized))
-
 pub returns : goal.returns
 returns c =
     let q = c.round_small.result in
     small_answers (2 ^ 24) _ q RefinedSize (search rules) (sum (search)) (pos 9) (fine (search)) (same c.args.a c.args.b c.args.c) tt (toward_of_three_refined c.args.a c.args.b c.args.c q c.requires) c.round_small.ensures
-
-pub overflow_add-a : goal.overflow_add-a
-overflow_add-a c = search (fine c)
-
-pub overflow_mul-a : goal.overflow_mul-a
-overflow_mul-a c = search (fine c)
-
-pub overflow_add-a-2 : goal.overflow_add-a-2
-overflow_add-a-2 c = search (fine c)

@@ -7,8 +7,8 @@ use Rattle.lines.proofs.words.WordRows.{not_placed, is_placed}
 use borrow.Author.Rules.{rules}
 use Rattle.lines.proofs.words.put_place.Goals as goal
 
-pub returns-then-name-eq0 : goal.returns-then-name-eq0
-returns-then-name-eq0 c = put_same (not_placed c.args.name.now c.args.place (search rules)) (put_none _ _)
+pub returns-then-is_empty : goal.returns-then-is_empty
+returns-then-is_empty c = put_same (not_placed c.args.name.now c.args.place (search rules)) (put_none _ _)
 
 pub returns : goal.returns
 returns c =

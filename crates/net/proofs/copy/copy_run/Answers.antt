@@ -1,6 +1,6 @@
 -- `net::copy::copy_run` meets its contract. The invariant: the first j points are copied.
 use mathlib.Core.Path.{◌≡◌, refl, subst}
-use Prim.Native.Nat.{ℕ, ◌+◌, ◌-◌, ◌*◌, ◌≤◌, ◌<◌}
+use Prim.Native.Nat.{ℕ, ◌+◌, ◌*◌, ◌<◌}
 use native.Mathlib.Omega.{arith}
 use lib.ListN.{get_or}
 use lib.IntN.{pos}
@@ -24,33 +24,27 @@ below : (l : In-loop-j) → l.args.point + l.loop-j.j < 40
 below l = omega (arith, l.requires.0, l.loop-j-test.true)
 
 pub loop-j-init : goal.loop-j-init
-loop-j-init c = (
-  search rules,
-  subst (λ (n : ℕ). PointsCopied c.args.lanes.now c.args.at c.args.point n c.args.out.now c.args.out.now)
-      (zero_more c.args.point) (copied_none _ _ _ _),
-)
+loop-j-init c =
+    subst (λ (n : ℕ). PointsCopied c.args.lanes.now c.args.at c.args.point n c.args.out.now c.args.out.now)
+    (zero_more c.args.point) (copied_none _ _ _ _)
 
 pub loop-j-preserved : goal.loop-j-preserved
 loop-j-preserved c =
     let l = (goal.at.loop-j-preserved c).In-loop-j in
-    let s = l in
-    let n = s.args.point + l.loop-j.j in
-    let fx : SFits w32 (get_or s.args.lanes.now (4 * n) (pos 0)) = search rules in
-    let fy : SFits w32 (get_or s.args.lanes.now (4 * n + 1) (pos 0)) = search rules in
-    let fz : SFits w32 (get_or s.args.lanes.now (4 * n + 2) (pos 0)) = search rules in (
-      omega (arith, l.loop-j-test.true),
-      subst (λ (i : ℕ). PointsCopied s.args.lanes.now s.args.at s.args.point i s.args.out.now c.put_four.new.out)
-          (one_more_lem s.args.point l.loop-j.j)
-          (copied_more s.args.lanes.now s.args.at s.args.point n 4 (s.args.at + 3 * n) s.args.out.now l.loop-j.out _ _ _ _ refl
-          (omega arith) (omega (arith, below l)) l.loop-j.invariant.1 (to_z-of_z fx) (to_z-of_z fy) (to_z-of_z fz) c.put_four.ensures.0),
-    )
+    let n = l.args.point + l.loop-j.j in
+    let fx : SFits w32 (get_or l.args.lanes.now (4 * n) (pos 0)) = search rules in
+    let fy : SFits w32 (get_or l.args.lanes.now (4 * n + 1) (pos 0)) = search rules in
+    let fz : SFits w32 (get_or l.args.lanes.now (4 * n + 2) (pos 0)) = search rules in
+    subst (λ (i : ℕ). PointsCopied l.args.lanes.now l.args.at l.args.point i l.args.out.now c.put_four.new.out)
+    (one_more_lem l.args.point l.loop-j.j)
+    (copied_more l.args.lanes.now l.args.at l.args.point n 4 (l.args.at + 3 * n) l.args.out.now l.loop-j.out _ _ _ _ refl
+    (omega arith) (omega (arith, below l)) l.loop-j.invariant (to_z-of_z fx) (to_z-of_z fy) (to_z-of_z fz) c.put_four.ensures.0)
 
 pub returns : goal.returns
 returns c =
-    let s = c in
     let l = c.loop-j in
-    let e : l.j ≡ s.args.count = omega arith in
-    subst (λ (n : ℕ). PointsCopied s.args.lanes.now s.args.at s.args.point (s.args.point + n) s.args.out.now l.out) e l.invariant.1
+    let e : l.j ≡ c.args.count = omega arith in
+    subst (λ (n : ℕ). PointsCopied c.args.lanes.now c.args.at c.args.point (c.args.point + n) c.args.out.now l.out) e l.invariant
 
 pub overflow_add-p : goal.overflow_add-p
 overflow_add-p c = search (rules, below (goal.at.overflow_add-p c).In-loop-j)
@@ -98,7 +92,4 @@ pub overflow_add-at : goal.overflow_add-at
 overflow_add-at c = search (rules, below (goal.at.overflow_add-at c).In-loop-j)
 
 pub put_four-requires : goal.put_four-requires
-put_four-requires c = let l = (goal.at.put_four-requires c).In-loop-j in omega (arith, below l, l.requires.2, l.loop-j.invariant.1.same)
-
-pub shape_of-out : goal.shape_of-out
-shape_of-out c = c.loop-j.invariant.1.same
+put_four-requires c = let l = (goal.at.put_four-requires c).In-loop-j in omega (arith, below l, l.requires.2, l.loop-j.invariant.same)

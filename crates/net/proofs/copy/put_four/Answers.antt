@@ -2,7 +2,6 @@
 use mathlib.Core.Path.{◌∙◌}
 use Prim.Native.Nat.{◌+◌}
 use native.Mathlib.Omega.{arith}
-use borrow.Author.Rules.{rules}
 use lib.Seq.{get_or-set_same}
 use mir.Facts.{to_z-of_z}
 use Rattle.net.proofs.copy.Copies.{four_put}

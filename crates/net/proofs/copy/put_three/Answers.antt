@@ -1,6 +1,5 @@
 -- `net::copy::put_three` meets its contract.
 use native.Mathlib.Omega.{arith}
-use borrow.Author.Rules.{rules}
 use lib.ListN.{length-set}
 use mir.Facts.{to_z-of_z}
 use Rattle.net.proofs.copy.Copies.{three_put}

@@ -1,7 +1,6 @@
 -- `net::lanes::lane_sides` meets its contract: the rings' faces from their rows, and the sides made from them.
 use mathlib.Core.Path.{refl}
 use native.Mathlib.Omega.{arith}
-use borrow.Author.Rules.{rules}
 use Rattle.net_rows.proofs.rows.Laws.{row, row_is}
 use Rattle.net.proofs.lanes.lane_sides.Goals as goal
 use Rattle.net.proofs.lanes.lane_sides.Goals.{After-ring_face-face, After-ring_face-vertex, Start}

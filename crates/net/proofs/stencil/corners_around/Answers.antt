@@ -1,7 +1,6 @@
 -- `net::stencil::corners_around` meets its contract: each step leads where the corners' own step does, and every corner on the way has its row.
 use Prim.Native.Nat.{◌<◌}
 use native.Mathlib.Omega.{arith}
-use borrow.Author.Rules.{rules}
 use Rattle.net.proofs.stencil.corners_around.Goals as goal
 use Rattle.net.proofs.stencil.corners_around.Goals.{After-previous-previous, Start}
 

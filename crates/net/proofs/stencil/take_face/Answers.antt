@@ -1,6 +1,5 @@
 -- `net::stencil::take_face` meets its contract, by cases on the sides.
 use mathlib.Core.Path.{sym, ◌∙◌}
-use borrow.Author.Rules.{rules}
 use lib.Dec.{lit<}
 use Rattle.net.proofs.stencil.Rings.{row_in}
 use Rattle.net.proofs.stencil.take_face.Goals as goal

@@ -1,7 +1,7 @@
 -- `net::stencil::take_ring` meets its contract. The invariant: r rows have the points towards the sides from the corner before c on, and the walker stands
 -- at the r-th corner.
 use mathlib.Core.Path.{◌≡◌, sym, ap, ◌∙◌}
-use Prim.Native.Nat.{ℕ, ◌+◌, ◌-◌, ◌*◌, ◌≤◌, ◌<◌}
+use Prim.Native.Nat.{ℕ, ◌+◌, ◌*◌, ◌≤◌, ◌<◌}
 use native.Mathlib.Omega.{arith}
 use borrow.Author.Rules.{rules}
 use lib.Dec.{lit<}
@@ -11,9 +11,8 @@ use Rattle.paper.specs.Scan.{iterate}
 use Rattle.paper.specs.Mesh.{most_sides}
 use Rattle.paper.specs.Net.{side1, X}
 use Rattle.numbers.specs.Units.{Reciprocal}
-use Rattle.walk.specs.Table.{to_next, to_previous, sides_here, entry}
+use Rattle.walk.specs.Table.{sides_here, entry}
 use Rattle.net.specs.Drawn.{drawn, Drawn}
-use Rattle.net.specs.stencil.Taken.{FaceTaken}
 use Rattle.net.proofs.stencil.Taken.{row_at, face_none, face_more, face_end}
 use Rattle.net.proofs.stencil.Rings.{step_more, Divisor, divisor, row_in, face_ring, face_h, face_x, walked_in, sides_along}
 use Rattle.net.proofs.stencil.take_ring.Goals as goal
@@ -34,18 +33,15 @@ reciprocal_is c = let d = by (search) in rw (d.count_is, to_z-of_z d.fits) at c.
 
 pub ring_centre-centre-requires : goal.ring_centre-centre-requires
 ring_centre-centre-requires c =
-    let s = c in record { ring = face_ring _ _ _ (drawn_is (goal.at.ring_centre-centre-requires c).Start) _ _ s.requires.mesh.1 (sym s.requires.mesh.2); reciprocal = reciprocal_is (goal.at.ring_centre-centre-requires c).After-reciprocal-f }
+    record { ring = face_ring _ _ _ (drawn_is (goal.at.ring_centre-centre-requires c).Start) _ _ c.requires.mesh.1 (sym c.requires.mesh.2); reciprocal = reciprocal_is (goal.at.ring_centre-centre-requires c).After-reciprocal-f }
 
 pub loop-r-init : goal.loop-r-init
 unfolding iterate
 loop-r-init c =
-    let r = c in
-    let f = c in
     let s = (goal.at.loop-r-init c).Start in (
-      omega arith,
       face_none _ _ _
-          (row_at f.ring_centre-centre.result 10 _ _ r.take_row.ensures _ _ (λ a l z o. face_h _ _ _ (drawn_is s) _ _ a z (sym s.requires.mesh.2) o)
-          f.ring_centre-centre.ensures),
+          (row_at c.ring_centre-centre.result 10 _ _ c.take_row.ensures _ _ (λ a l z o. face_h _ _ _ (drawn_is s) _ _ a z (sym s.requires.mesh.2) o)
+          c.ring_centre-centre.ensures),
       c.previous-at.ensures.read,
     )
 
@@ -59,10 +55,10 @@ module _ (l : In-loop-r) where
   few = omega (arith, l.loop-r-test.true, start.requires.room.1)
 
   here : l.loop-r.at.corner < start.args.count
-  here = walked_in _ _ _ (drawn_is start) _ start.requires.mesh.1 _ _ l.loop-r.invariant.2
+  here = walked_in _ _ _ (drawn_is start) _ start.requires.mesh.1 _ _ l.loop-r.invariant.1
 
   sides_at : start.args.n ≡ entry start.args.table.now sides_here l.loop-r.at.corner
-  sides_at = sym (ap (entry start.args.table.now sides_here) l.loop-r.invariant.2 ∙ sides_along _ _ _ (drawn_is start) _ start.requires.mesh.1 l.loop-r.r ∙ start.requires.mesh.2)
+  sides_at = sym (ap (entry start.args.table.now sides_here) l.loop-r.invariant.1 ∙ sides_along _ _ _ (drawn_is start) _ start.requires.mesh.1 l.loop-r.r ∙ start.requires.mesh.2)
 
 pub ring_toward-p-requires : goal.ring_toward-p-requires
 ring_toward-p-requires c =
@@ -74,34 +70,27 @@ ring_toward-p-requires c =
 pub take_row-requires-in-loop-r : goal.take_row-requires-in-loop-r
 take_row-requires-in-loop-r c =
     let l = (goal.at.take_row-requires-in-loop-r c).In-loop-r in
-    let r = c in
     let s = start l in
-    omega (arith, few l, l.loop-r.invariant.1.same, r.take_row.ensures.same, s.requires.room.0)
+    omega (arith, few l, l.loop-r.invariant.0.same, c.take_row.ensures.same, s.requires.room.0)
 
 pub loop-r-preserved : goal.loop-r-preserved
 loop-r-preserved c =
-    let t = c in
-    let p = c in
     let l = (goal.at.loop-r-preserved c).In-loop-r in
     let s = start l in
     let i = l.loop-r.invariant in (
-      omega (arith, l.loop-r-test.true),
-      face_more _ _ _ _ _ _ p.ring_toward-p.result i.1 t.take_row-in-loop-r.ensures
-          (row_at p.ring_toward-p.result _ _ _ t.take_row-in-loop-r.ensures _ _
+      face_more _ _ _ _ _ _ c.ring_toward-p.result i.0 c.take_row-in-loop-r.ensures
+          (row_at c.ring_toward-p.result _ _ _ c.take_row-in-loop-r.ensures _ _
           (λ a k z o. face_x _ _ _ (drawn_is s) _ _ a z (sides_at l) o
-          ∙ ap (λ (d : ℕ). X (drawn s.args.count s.args.table.now s.args.points.now a) d side1) i.2) p.ring_toward-p.ensures),
-      c.next-at.ensures.read ∙ step_more _ _ _ _ i.2,
+          ∙ ap (λ (d : ℕ). X (drawn s.args.count s.args.table.now s.args.points.now a) d side1) i.1) c.ring_toward-p.ensures),
+      c.next-at.ensures.read ∙ step_more _ _ _ _ i.1,
     )
 
 pub returns : goal.returns
 returns c =
-    let r = c in
-    let f = c in
-    let s = c in
     let l = c.loop-r in
-    let e : l.r ≡ s.args.run + 1 = omega arith in
-    face_end _ _ _ _ _ _ f.ring_centre-centre.result r.take_row.ensures
-    (rw e at l.invariant.1)
+    let e : l.r ≡ c.args.run + 1 = omega arith in
+    face_end _ _ _ _ _ _ c.ring_centre-centre.result c.take_row.ensures
+    (rw e at l.invariant.0)
 
 pub overflow_cast-n : goal.overflow_cast-n
 overflow_cast-n c = let d = by (goal.at.overflow_cast-n c).Start in search rules
@@ -113,7 +102,7 @@ pub reciprocal-f-requires : goal.reciprocal-f-requires
 reciprocal-f-requires c = let d = by (goal.at.reciprocal-f-requires c).Start in rw (d.count_is, to_z-of_z d.fits) (d.from, d.to)
 
 pub take_row-requires : goal.take_row-requires
-take_row-requires c = let s = c in omega (arith, s.requires.room.0)
+take_row-requires c = omega (arith, c.requires.room.0)
 
 pub previous-at-requires : goal.previous-at-requires
 previous-at-requires c = let s = (goal.at.previous-at-requires c).Start in row_in _ _ _ (drawn_is s) _ _ (lit< tt) s.requires.mesh.1
@@ -123,9 +112,3 @@ overflow_add-r c = let l = (goal.at.overflow_add-r c).In-loop-r in search (rules
 
 pub next-at-requires : goal.next-at-requires
 next-at-requires c = let l = (goal.at.next-at-requires c).In-loop-r in row_in _ _ _ (drawn_is (start l)) _ _ (lit< tt) (here l)
-
-pub overflow_add-r-in-loop-r : goal.overflow_add-r-in-loop-r
-overflow_add-r-in-loop-r c = let l = (goal.at.overflow_add-r-in-loop-r c).In-loop-r in search (rules, few l)
-
-pub shape_of-stencil : goal.shape_of-stencil
-shape_of-stencil c = let r = c in c.loop-r.invariant.1.same ∙ r.take_row.ensures.same

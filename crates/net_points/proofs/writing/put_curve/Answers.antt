@@ -13,9 +13,6 @@ pub put_curve_on-requires-2 : goal.put_curve_on-requires-2
 put_curve_on-requires-2 c =
     (c.turn_points-2.ensures.sampleable c.args.m c.requires.parts.0 c.requires.parts.1, omega (arith, c.requires.parts.2, c.put_curve_on.auto.points))
 
-pub overflow_add-at-2 : goal.overflow_add-at-2
-overflow_add-at-2 c = record { fits = omega (arith, c.requires.parts.2) }
-
 pub put_curve_on-requires-3 : goal.put_curve_on-requires-3
 put_curve_on-requires-3 c =
     (c.turn_points-3.ensures.sampleable c.args.m c.requires.parts.0 c.requires.parts.1, omega (arith, c.requires.parts.2, c.put_curve_on.auto.points, c.put_curve_on-2.auto.points))

@@ -7,8 +7,3 @@ put_row-requires c =
     let s = c in
     let r = c in
     (curve_sampleable s.args.p s.args.m s.requires.0 r.row_at-e.result r.row_at-e.ensures, s.requires.1)
-
-pub returns : goal.returns
-returns c =
-    let r = c in
-    rw r.row_at-e.ensures at c.put_row.ensures

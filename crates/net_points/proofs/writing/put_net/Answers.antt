@@ -24,16 +24,6 @@ pub put_end-requires-3 : goal.put_end-requires-3
 put_end-requires-3 c =
     let o = c.requires.1 in (omega (arith, long (search)), o.face, omega (arith, c.requires.2, c.put_end.auto.points, c.put_end-2.auto.points))
 
-pub put_curve-requires-2 : goal.put_curve-requires-2
-put_curve-requires-2 c =
-    let o = c.requires.1 in
-    record { net = (c.requires.0, omega arith); parts = (o.some_second, o.few_second, omega (arith, c.requires.2, c.put_end.auto.points, c.put_end-2.auto.points, c.put_end-3.auto.points, c.put_curve.auto.points)) }
-
-pub put_rings-requires : goal.put_rings-requires
-put_rings-requires c =
-    let o = c.requires.1 in
-    (c.requires.0, o.some_level, o.few_level, omega (arith, c.requires.2, c.put_end.auto.points, c.put_end-2.auto.points, c.put_end-3.auto.points, c.put_curve.auto.points, c.put_curve-2.auto.points))
-
 pub put_end-requires-4 : goal.put_end-requires-4
 put_end-requires-4 c =
     (omega (arith, long (search)), omega arith, omega (arith, c.requires.2, c.put_end.auto.points, c.put_end-2.auto.points, c.put_end-3.auto.points, c.put_curve.auto.points, c.put_curve-2.auto.points, c.put_rings.auto.points))

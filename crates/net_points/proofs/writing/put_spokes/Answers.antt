@@ -11,7 +11,7 @@ use Rattle.bernstein.specs.Sums.{AllSized, polynomial_of, states_of, steps_of, f
 use Rattle.bernstein.proofs.Laws.{polynomial_tapers, states_size}
 use Rattle.bernstein.proofs.Identity.{states_step, firsts_row}
 use Rattle.closing.proofs.Counts.{most_inner}
-use Rattle.net_points.proofs.writing.Laws.{reaches_none, spoke_sampleable, ring_room}
+use Rattle.net_points.proofs.writing.Laws.{spoke_sampleable, ring_room}
 use Rattle.net_points.proofs.writing.Parts.{spokes_step, spokes_all}
 use Rattle.net_points.proofs.writing.put_spokes.Goals as goal
 use Rattle.net_points.proofs.writing.put_spokes.Goals.{After-rings_before-ring, In-loop-k}
@@ -34,13 +34,13 @@ module _ (t : In-loop-k) where
   c = polynomial_of t.args.p (pos n)
 
   below : k + 1 < n
-  below = t.loop-k-test.true
+  below = omega arith
 
   few : n ≤ 16
   few = t.requires.0.few
 
   states : t.loop-k.s ≡ states_of c k
-  states = (t.loop-k.invariant.2 t.args.p t.start-s.ensures).0
+  states = (t.loop-k.invariant t.args.p t.start-s.ensures).0
 
   sized_at : (r : Matrix5) (x : ℕ) → x ≤ 16 → r ≡ states_of c x → AllSized (2 ^ 60) r
   sized_at r x h e =
@@ -59,20 +59,13 @@ module _ (t : In-loop-k) where
   inner = most_inner n few
 
   long : length t.loop-k.points ≡ length t.args.points.now
-  long = t.loop-k.invariant.1
-
-pub loop-k-init : goal.loop-k-init
-loop-k-init c =
-    (omega (arith, c.requires.0.some), refl, λ p h. (h, λ f aim. reaches_none c.args.points.now (λ t s. let b = s.2 in omega arith)))
+  long = t.loop-k.auto.points
 
 pub next-s-requires : goal.next-s-requires
 next-s-requires c = sized (search)
 
 pub row-e-requires : goal.row-e-requires
 row-e-requires c = sized_next (search) c.next-s.result c.next-s.ensures
-
-pub overflow_mul-side : goal.overflow_mul-side
-overflow_mul-side c = let b = within (search) in let f = inner (search) in record { fits = omega arith }
 
 -- where the row starts
 module _ (c : After-rings_before-ring) where
@@ -83,15 +76,6 @@ module _ (c : After-rings_before-ring) where
       ≤ length c.loop-k.points + 2
   place_room = let b = within (search) in omega (arith, ring_is, long (search), c.requires.2)
 
-pub overflow_add-ring : goal.overflow_add-ring
-overflow_add-ring c = let b = within (search) in let f = inner (search) in record { fits = omega (arith, ring_is (search)) }
-
-pub overflow_mul-ring : goal.overflow_mul-ring
-overflow_mul-ring c = let b = within (search) in let f = inner (search) in record { fits = omega (arith, ring_is (search)) }
-
-pub overflow_add-at : goal.overflow_add-at
-overflow_add-at c = record { fits = omega (arith, place_room (search), long (search)) }
-
 pub put_row-requires : goal.put_row-requires
 put_row-requires c = (
   spoke_sampleable c.args.p c.args.n c.loop-k.k (c.args.n - c.loop-k.k - 1) (below (search)) (omega arith) c.requires.0 c.row-e.result
@@ -100,22 +84,19 @@ put_row-requires c = (
 )
 
 pub loop-k-preserved : goal.loop-k-preserved
-loop-k-preserved c = (
-  omega (arith, below (search)),
-  c.put_row.ensures.same ∙ long (search),
-  λ p h.
-      let i = c.loop-k.invariant.2 p h in (
-        c.next-s.ensures ∙ ap steps_of i.0 ∙ states_step (polynomial_of p (pos c.args.n)) c.loop-k.k,
-        λ f aim.
-            spokes_step p c.args.n c.args.side c.args.at c.loop-k.k c.args.points.now c.loop-k.points _ (below (search)) c.row-e.result
-            (row_is (polynomial_of p (pos c.args.n)) c.loop-k.s c.next-s.result c.row-e.result c.loop-k.k i.0 c.next-s.ensures c.row-e.ensures)
-            c.rings_before-ring.result (c.args.n - c.loop-k.k - 1) _ c.rings_before-ring.ensures.0 (omega arith) refl c.put_row.ensures f aim (i.1 f aim),
-      ),
-)
+loop-k-preserved c =
+    λ p h.
+    let i = c.loop-k.invariant p h in (
+      c.next-s.ensures ∙ ap steps_of i.0 ∙ states_step (polynomial_of p (pos c.args.n)) c.loop-k.k,
+      λ f aim.
+          spokes_step p c.args.n c.args.side c.args.at c.loop-k.k c.args.points.now c.loop-k.points _ (below (search)) c.row-e.result
+          (row_is (polynomial_of p (pos c.args.n)) c.loop-k.s c.next-s.result c.row-e.result c.loop-k.k i.0 c.next-s.ensures c.row-e.ensures)
+          c.rings_before-ring.result (c.args.n - c.loop-k.k - 1) _ c.rings_before-ring.ensures.0 (omega arith) refl c.put_row.ensures f aim (i.1 f aim),
+    )
 
 pub returns : goal.returns
 returns c =
     let l = c.loop-k in
     λ f aim.
     spokes_all f c.args.side c.args.n c.args.at l.k c.args.points.now l.points (omega arith)
-    ((l.invariant.2 c.args.p c.start-s.ensures).1 f aim)
+    ((l.invariant c.args.p c.start-s.ensures).1 f aim)

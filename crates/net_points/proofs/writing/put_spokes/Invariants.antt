@@ -1,7 +1,6 @@
 -- `net_points::writing::put_spokes` meets its contract: before ring k + 1 the states are those of row k, and the rows of the rings before it are put.
 use mathlib.Core.Path.{◌≡◌}
-use Prim.Native.Nat.{ℕ, ◌+◌, ◌-◌, ◌≤◌}
-use lib.ListN.{length}
+use Prim.Native.Nat.{ℕ}
 use lib.IntN.{ℤ, pos}
 use Rattle.bernstein.specs.declared.Matrix5.{Matrix5}
 use Rattle.bernstein.specs.Sums.{polynomial_of, states_of}
@@ -10,9 +9,6 @@ use Rattle.net_points.proofs.writing.put_spokes.Given as goal
 
 abbrev pub invariant-loop-k : goal.invariant-loop-k
 invariant-loop-k l =
-    (l.k + 1 ≤ l.n) × (length l.points ≡ length l.initial.points)
-    × ((p : Matrix5) → l.initial.s ≡ states_of (polynomial_of p (pos l.n)) 0
-    → (l.s ≡ states_of (polynomial_of p (pos l.n)) l.k) × ((f : ℕ → ℤ) → SpokeAim p l.side l.n l.at f → Reaches f (SpokePlace l.side l.n l.at l.k) l.initial.points l.points))
-
-abbrev pub decreases-loop-k : goal.decreases-loop-k
-decreases-loop-k l = l.n - l.k
+    (p : Matrix5) → l.initial.s ≡ states_of (polynomial_of p (pos l.n)) 0
+    → (l.s ≡ states_of (polynomial_of p (pos l.n)) l.k)
+    × ((f : ℕ → ℤ) → SpokeAim p l.side l.n l.at f → Reaches f (SpokePlace l.side l.n l.at l.k) l.initial.points l.points)

@@ -3,7 +3,6 @@ use mathlib.Core.Path.{◌∙◌, subst}
 use mathlib.Core.List.{List}
 use Prim.Native.Nat.{◌+◌}
 use native.Mathlib.Omega.{arith}
-use borrow.Author.Rules.{rules}
 use lib.IntN.{ℤ}
 use Rattle.paper.specs.Net.{rows}
 use Rattle.net_rows.specs.points.Placed.{PointsPlaced}
@@ -11,51 +10,29 @@ use Rattle.net_rows.proofs.points.Laws.{a_is, b_is, lane_laid, other_lanes}
 use Rattle.net_rows.proofs.points.put_lane.Goals as goal
 
 pub b_grid-b-requires : goal.b_grid-b-requires
-b_grid-b-requires c =
-    let a = c in
-    let v = c in
-    let u = c in
-    let t = c in
-    let r = c in (
-      record { rows0 = r.side_rows-r0.ensures.sized; rows1 = t.side_rows-r1.ensures.sized; rows2 = u.side_rows-r2.ensures.sized; rows3 = v.side_rows-r3.ensures.sized },
-      a.a_grid-a.ensures.sized.0,
-      a.a_grid-a.ensures.sized.1,
-    )
-
-pub put_b-requires : goal.put_b-requires
-put_b-requires c =
-    let a = c in let r = c in let s = c in
-    (omega (arith, s.requires.1, s.requires.2), c.b_grid-b.ensures.square)
+b_grid-b-requires c = (
+  record { rows0 = c.side_rows-r0.ensures.sized; rows1 = c.side_rows-r1.ensures.sized; rows2 = c.side_rows-r2.ensures.sized; rows3 = c.side_rows-r3.ensures.sized },
+  c.a_grid-a.ensures.sized.0,
+  c.a_grid-a.ensures.sized.1,
+)
 
 pub overflow_add-k : goal.overflow_add-k
 overflow_add-k c =
-    let a = c in let r = c in let s = c in
-    record { fits = omega (arith, s.requires.1) }
-
-pub put_a-requires : goal.put_a-requires
-put_a-requires c =
-    let a = c in let r = c in let s = c in
-    (omega (arith, s.requires.1, s.requires.2, c.put_b.ensures.same), a.a_grid-a.ensures.square)
+    record { fits = omega (arith, c.requires.1) }
 
 pub returns : goal.returns
 returns c =
-    let a = c in let r = c in let s = c in
-    let b = c in
-    let g = c in
-    let v = c in
-    let u = c in
-    let t = c in
-    let mid = c.put_b.new.out in
-    let new = c.put_a.new.out in
+    let mid = c.put_grid.new.out in
+    let new = c.put_grid-2.new.out in
     record {
-      same = c.put_a.ensures.same ∙ b.put_b.ensures.same;
+      same = c.put_grid-2.ensures.same ∙ c.put_grid.ensures.same;
       laid = λ K d f.
-          lane_laid K d s.args.k s.args.lanes.now mid new
-          (subst (λ (z : List (List ℤ)). PointsPlaced s.args.lanes.now mid s.args.k (rows z))
-          (b_is K d s.args.n f s.requires.0 _ _ _ _ r.side_rows-r0.ensures t.side_rows-r1.ensures u.side_rows-r2.ensures v.side_rows-r3.ensures _ _
-          a.a_grid-a.ensures g.b_grid-b.ensures) b.put_b.ensures)
-          (subst (λ (z : List (List ℤ)). PointsPlaced mid new (s.args.k + 100) (rows z))
-          (a_is K d s.args.n f s.requires.0 _ _ _ _ r.side_rows-r0.ensures t.side_rows-r1.ensures u.side_rows-r2.ensures v.side_rows-r3.ensures _
-          a.a_grid-a.ensures) c.put_a.ensures);
-      others = other_lanes s.args.k s.args.lanes.now mid new _ _ s.requires.1 b.put_b.ensures c.put_a.ensures;
+          lane_laid K d c.args.k c.args.lanes.now mid new
+          (subst (λ (z : List (List ℤ)). PointsPlaced c.args.lanes.now mid c.args.k (rows z))
+          (b_is K d c.args.n f c.requires.0 _ _ _ _ c.side_rows-r0.ensures c.side_rows-r1.ensures c.side_rows-r2.ensures c.side_rows-r3.ensures _ _
+          c.a_grid-a.ensures c.b_grid-b.ensures) c.put_grid.ensures)
+          (subst (λ (z : List (List ℤ)). PointsPlaced mid new (c.args.k + 100) (rows z))
+          (a_is K d c.args.n f c.requires.0 _ _ _ _ c.side_rows-r0.ensures c.side_rows-r1.ensures c.side_rows-r2.ensures c.side_rows-r3.ensures _
+          c.a_grid-a.ensures) c.put_grid-2.ensures);
+      others = other_lanes c.args.k c.args.lanes.now mid new _ _ c.requires.1 c.put_grid.ensures c.put_grid-2.ensures;
     }

@@ -1,5 +1,4 @@
 -- `net_rows::rows::b_grid` meets its contract: the law `b_grid_is` reads what the calls give.
-use borrow.Author.Rules.{rules}
 use Rattle.net_rows.proofs.rows.Laws.{written, b_grid_is}
 use Rattle.net_rows.proofs.rows.b_grid.Goals as goal
 

@@ -1,5 +1,4 @@
 -- `net_rows::sides::face_through` meets its contract: the points are read, and the law `through` reads what the formulas give.
-use borrow.Author.Rules.{rules}
 use Rattle.surface.specs.Points.{point_at}
 use Rattle.faces.proofs.Few.{read}
 use Rattle.net_rows.proofs.rows.Laws.{ReadAs}

@@ -7,6 +7,6 @@ pub returns : goal.returns
 returns c =
     let l = c.args.numbers.now in
     let i = c.args.i in
-    let x = c.bits.ensures ∙ read_bits l i (search rules) in
-    let y = c.bits-2.ensures ∙ read_bits l _ (search rules) in
-    c.difference.ensures ∙ delta_of l i x y ∙ sym (delta_later l i (omega arith))
+    let x = c.cast_unsigned.ensures ∙ read_bits l i (search rules) in
+    let y = c.cast_unsigned-before.ensures ∙ read_bits l _ (search rules) in
+    delta_of l i x y ∙ sym (delta_later l i (omega arith))

@@ -1,17 +1,13 @@
 -- Decoding refuses and leaves the lists as they were, or leaves lists within the limits, whose lengths are told as they are.
-use mathlib.Core.Path.{refl}
-use Rattle.paper.specs.Mesh.{mesh_of}
+use Rattle.std.proofs.lemmas.Result.{err_from_is_err_and}
 use Rattle.print.proofs.mesh_input.Meshes.{mesh_refused, mesh_found}
 use Rattle.print.proofs.mesh_input.decode_lists.Goals as goal
 
-pub returns-in-Refused : goal.returns-in-Refused
-returns-in-Refused c =
-    let a = c.args in
-    mesh_refused a.bytes.now a.counted (mesh_of a.coordinates.now a.sides.now a.corners.now a.sharpness.now) c.decode-d.result _
-    c.decode-d.ensures _ _ c.no_mesh.result c.in-Refused.is c.no_mesh.ensures
+pub returns-in_err-lengths : goal.returns-in_err-lengths
+returns-in_err-lengths c =
+    let p = err_from_is_err_and c.from_residual.result c.from_residual.ensures.1 in
+    rw (p.1, p.2) (mesh_refused c.args.bytes.now c.args.counted _ _ _ c.in_err-lengths.ensures)
 
 pub returns : goal.returns
 returns c =
-    let a = c.args in
-    mesh_found a.bytes.now a.counted (mesh_of a.coordinates.now a.sides.now a.corners.now a.sharpness.now) c.decode-d.result _
-    c.decode-d.ensures c.in_default.is _ refl c.least.ensures c.least-2.ensures c.least-3.ensures c.least-4.ensures
+    mesh_found c.args.bytes.now c.args.counted _ _ c.in_ok-lengths.lengths c.in_ok-lengths.ensures _ c.min.ensures c.min-2.ensures c.min-3.ensures c.min-4.ensures

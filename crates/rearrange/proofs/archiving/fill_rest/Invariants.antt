@@ -1,11 +1,6 @@
--- After k turns every plane holds all but the last of the rest, and k of these.
-use Prim.Native.Nat.{◌+◌, ◌-◌, ◌%◌, ◌≤◌}
-use lib.ListN.{length}
+-- Before each turn every plane holds the numbers below i.
 use Rattle.planes.specs.Planes.{Planed}
 use Rattle.rearrange.proofs.archiving.fill_rest.Given as goal
 
-abbrev pub invariant-loop-k : goal.invariant-loop-k
-invariant-loop-k l = (l.k ≤ (length l.numbers - 3) % 4) × Planed l.numbers (length l.numbers - (length l.numbers - 3) % 4 + l.k) l.bytes
-
-abbrev pub decreases-loop-k : goal.decreases-loop-k
-decreases-loop-k l = (length l.numbers - 3) % 4 - l.k
+abbrev pub invariant-loop-i : goal.invariant-loop-i
+invariant-loop-i l = Planed l.numbers l.i l.bytes

@@ -1,6 +1,6 @@
 -- After v turns the numbers of the first v vertices are restored, and x, y, z are the sums of the last of them.
-use mathlib.Core.Path.{◌≡◌, refl, sym}
-use Prim.Native.Nat.{ℕ, ◌+◌, ◌*◌, ◌/◌, ◌%◌, ◌<◌, ◌≤◌}
+use mathlib.Core.Path.{◌≡◌, sym}
+use Prim.Native.Nat.{ℕ, ◌+◌, ◌*◌, ◌/◌, ◌%◌, ◌<◌}
 use native.Mathlib.Nat.{div-add-mod}
 use lib.ListN.{length}
 use mir.Syntax.{w64}
@@ -23,29 +23,22 @@ module _ (v n : ℕ) (h : v < n / 3) where
   last_place : 3 * v + 2 < n
   last_place = omega (arith, div-add-mod n 3)
 
-  one_more_lem : v + 1 ≤ n / 3
-  one_more_lem = omega arith
-
-all_vertices : (v n : ℕ) → v ≤ n / 3 → n / 3 ≤ v → n % 3 ≡ 0 → 3 * v ≡ n
-all_vertices v n a b e = omega (arith, div-add-mod n 3)
+all_vertices : (v n : ℕ) → v ≡ n / 3 → n % 3 ≡ 0 → 3 * v ≡ n
+all_vertices v n a e = omega (arith, div-add-mod n 3)
 
 -- the list keeps its length from call to call
 length1 : (c : After-restore_at-x) → length c.restore_at-x.new.numbers ≡ length c.args.numbers.now
-length1 c = one_length _ _ _ _ _ _ _ _ c.restore_at-x.ensures c.loop-v.invariant.1
+length1 c = one_length _ _ _ _ _ _ _ _ c.restore_at-x.ensures c.loop-v.auto.numbers
 
 length2 : (c : After-restore_at-y) → length c.restore_at-x.new.numbers ≡ length c.args.numbers.now
     → length c.restore_at-y.new.numbers ≡ length c.args.numbers.now
 length2 c = one_length _ _ _ _ _ _ _ _ c.restore_at-y.ensures
 
-length3 : (c : After-restore_at-z) → length c.restore_at-y.new.numbers ≡ length c.args.numbers.now
-    → length c.restore_at-z.new.numbers ≡ length c.args.numbers.now
-length3 c = one_length _ _ _ _ _ _ _ _ c.restore_at-z.ensures
-
 pub loop-v-init : goal.loop-v-init
 loop-v-init c =
     let b = c.args.bytes.now in
     let l = c.args.numbers.now in
-    let n = length l in (omega arith, refl, filled_none (restored_at b n) l, sym (before_first b n 0), sym (before_first b n 1), sym (before_first b n 2))
+    let n = length l in (filled_none (restored_at b n) l, sym (before_first b n 0), sym (before_first b n 1), sym (before_first b n 2))
 
 -- the three places in a turn of the loop
 module _ (i : In-loop-v) where
@@ -72,7 +65,7 @@ module _ (i : In-loop-v) where
   first_fits = fits_below (3 * turn) first
 
 pub restore_at-x-requires : goal.restore_at-x-requires
-restore_at-x-requires c = (first (goal.at.restore_at-x-requires c).In-loop-v, c.loop-v.invariant.1, c.requires.1)
+restore_at-x-requires c = (first (goal.at.restore_at-x-requires c).In-loop-v, c.loop-v.auto.numbers, c.requires.1)
 
 pub overflow_add-v : goal.overflow_add-v
 overflow_add-v c = let i = (goal.at.overflow_add-v c).In-loop-v in fits_below i (3 * turn i + 1) (second i)
@@ -96,18 +89,15 @@ loop-v-preserved c =
     let l = i.loop-v in
     let r3 = c.restore_at-z in
     let filled = vertex_fills b (length old) l.v old l.numbers c.restore_at-x.new.numbers c.restore_at-y.new.numbers r3.new.numbers l.x l.y l.z
-    c.restore_at-x.result c.restore_at-y.result r3.result l.invariant.3 l.invariant.4 l.invariant.5 c.restore_at-x.ensures c.restore_at-y.ensures r3.ensures (last i) l.invariant.2 in
+    c.restore_at-x.result c.restore_at-y.result r3.result l.invariant.1 l.invariant.2 l.invariant.3 c.restore_at-x.ensures c.restore_at-y.ensures r3.ensures (last i) l.invariant.0 in
     let next = vertex_next b (length old) l.v old l.numbers c.restore_at-x.new.numbers c.restore_at-y.new.numbers r3.new.numbers l.x l.y l.z
-    c.restore_at-x.result c.restore_at-y.result r3.result l.invariant.3 l.invariant.4 l.invariant.5 c.restore_at-x.ensures c.restore_at-y.ensures r3.ensures in
-    (one_more_lem l.v (length old) i.loop-v-test.true, length3 (goal.at.loop-v-preserved c).After-restore_at-z (length2 (goal.at.loop-v-preserved c).After-restore_at-y (length1 (goal.at.loop-v-preserved c).After-restore_at-x)), filled, next.0, next.1, next.2)
-
-pub shape_of-numbers : goal.shape_of-numbers
-shape_of-numbers c = c.loop-v.invariant.1
+    c.restore_at-x.result c.restore_at-y.result r3.result l.invariant.1 l.invariant.2 l.invariant.3 c.restore_at-x.ensures c.restore_at-y.ensures r3.ensures in
+    (filled, next.0, next.1, next.2)
 
 pub returns : goal.returns
 returns c =
     let l = c.loop-v in
-    restored_all c.args.bytes.now c.args.numbers.now l.numbers (3 * l.v) (all_vertices l.v (length c.args.numbers.now) l.invariant.0 c.loop-v-test.false c.requires.0) l.invariant.2
+    restored_all c.args.bytes.now c.args.numbers.now l.numbers (3 * l.v) (all_vertices l.v (length c.args.numbers.now) (omega arith) c.requires.0) l.invariant.0
 
 pub overflow_mul-v : goal.overflow_mul-v
 overflow_mul-v c = first_fits (goal.at.overflow_mul-v c).In-loop-v

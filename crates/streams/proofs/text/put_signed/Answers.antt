@@ -14,12 +14,12 @@ use Rattle.streams.proofs.text.put_signed.Goals as goal
 pub returns-then-z-lt0 : goal.returns-then-z-lt0
 returns-then-z-lt0 c =
     put_same
-    (ap (λ (n : ℕ). 45 ∷ decimal n) (c.size.ensures ∙ ap nat_abs (exact w32 c.args.z c.ranges.z))
+    (ap (λ (n : ℕ). 45 ∷ decimal n) (c.from-size.ensures ∙ c.unsigned_abs.ensures.value ∙ ap nat_abs (exact w32 c.args.z c.ranges.z))
     ∙ signed_below c.args.z (simp (to_z-of_z, c.ranges.z) at c.if-z-lt0.true))
     (put_then c.put_byte-to.auto.buffer c.put_byte-to.ensures c.put_number.ensures)
 
 pub returns : goal.returns
 returns c =
     put_same
-    (ap decimal (c.size-2.ensures ∙ ap nat_abs (exact w32 c.args.z c.ranges.z))
+    (ap decimal (c.from-size.ensures ∙ c.unsigned_abs.ensures.value ∙ ap nat_abs (exact w32 c.args.z c.ranges.z))
     ∙ signed_above c.args.z (simp (to_z-of_z, c.ranges.z) at c.if-z-lt0.false)) c.put_number-2.ensures

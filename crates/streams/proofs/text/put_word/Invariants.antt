@@ -1,12 +1,8 @@
--- After i turns the first i bytes of the word were put.
+-- The bytes of the word before this one were put.
 use mathlib.Core.Path.{◌≡◌}
-use Prim.Native.Nat.{◌≤◌, ◌-◌}
 use lib.ListN.{length, take}
 use Rattle.streams.specs.text.Text.{Put}
 use Rattle.streams.proofs.text.put_word.Given as goal
 
-abbrev pub invariant-loop-i : goal.invariant-loop-i
-invariant-loop-i l = (l.i ≤ length l.word) × (length l.buffer ≡ length l.initial.buffer) × Put l.initial.buffer l.at (take l.i l.word) l.buffer l.to
-
-abbrev pub decreases-loop-i : goal.decreases-loop-i
-decreases-loop-i l = length l.word - l.i
+abbrev pub invariant-loop-byte : goal.invariant-loop-byte
+invariant-loop-byte l = (length l.buffer ≡ length l.initial.buffer) × Put l.initial.buffer l.at (take l.byte-index l.word) l.buffer l.to

@@ -1,12 +1,14 @@
--- After i turns the table is the tally of the first i numbers, each entry of which is at most i.
+-- After as many turns as the index says no entry is above it, and the table is the tally of that many values by their numbers.
 use mathlib.Core.Path.{◌≡◌}
-use Prim.Native.Nat.{◌-◌, ◌≤◌}
-use lib.ListN.{length}
-use Rattle.surveying.specs.Tally.{tally_to}
+use mathlib.Core.List.{map}
+use Prim.Native.Nat.{ℕ, ◌≤◌}
+use lib.ListN.{length, get_or}
+use Rattle.surveying.specs.Tally.{Numbers, tally_to}
 use Rattle.surveying.proofs.counting.tally.Given as goal
 
-abbrev pub invariant-loop-i : goal.invariant-loop-i
-invariant-loop-i l = (l.i ≤ length l.values) × (l.table ≡ tally_to l.values l.i (length l.initial.table))
-
-abbrev pub decreases-loop-i : goal.decreases-loop-i
-decreases-loop-i l = length l.values - l.i
+abbrev pub invariant-loop-x : goal.invariant-loop-x
+invariant-loop-x g l =
+    record {
+      small : (m : ℕ) → get_or l.table m 0 ≤ l.x-index;
+      tallied : (number : g.row.T.Denot → ℕ) → Numbers g.T.Into.converts number → l.table ≡ tally_to (map number l.values) l.x-index (length l.initial.table);
+    }

@@ -1,7 +1,0 @@
--- `search_corners` meets its contract: the counts of corners are those of the mesh.
-use Rattle.irregular.proofs.Laws.{countable}
-use Rattle.irregular.proofs.search_corners.Goals as goal
-
-pub count_corners-requires : goal.count_corners-requires
-count_corners-requires c =
-    countable c.args.corners.now c.args.count c.requires.0 c.requires.1 c.requires.2

@@ -1,9 +1,0 @@
--- One turn for each argument.
-use Prim.Native.Nat.{◌-◌}
-use Rattle.report.proofs.offer_arguments.Given as goal
-
-abbrev pub invariant-loop-i : goal.invariant-loop-i
-invariant-loop-i l = Unit {0}
-
-abbrev pub decreases-loop-i : goal.decreases-loop-i
-decreases-loop-i l = l.count - l.i
