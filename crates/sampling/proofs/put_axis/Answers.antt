@@ -27,10 +27,10 @@ module _ (t : In-loop-k) where
   c = polynomial_of t.args.p (pos n)
 
   inv : (t.loop-k.s ≡ states_of c k) × RowsPut t.args.p n t.args.axis k t.args.points.now t.loop-k.points
-  inv = t.loop-k.invariant.1 t.args.p t.start-s.ensures
+  inv = t.loop-k.invariant.2 t.args.p t.start-s.ensures
 
   below : k ≤ n
-  below = omega (arith, t.loop-k-test.true)
+  below = t.loop-k-test.true
 
   tapers : AllTapered c
   tapers = polynomial_tapers t.args.p n t.requires.0.sized t.requires.0.few
@@ -40,7 +40,7 @@ module _ (t : In-loop-k) where
 
   room : t.loop-k.at + 3 * (n - k + 1) ≤ length t.loop-k.points + 2
   room =
-      row_room n k t.args.axis t.loop-k.at (length t.loop-k.points) below t.requires.1 t.loop-k.invariant.0
+      row_room n k t.args.axis t.loop-k.at (length t.loop-k.points) below t.requires.1 t.loop-k.invariant.1
       (omega (arith, inv.1.same, t.requires.2))
 
   few : n ≤ 16
@@ -51,7 +51,7 @@ row_is c k s e h g = h ∙ ap firsts_of g ∙ firsts_row c k
 
 pub loop-k-init : goal.loop-k-init
 unfolding samples_before
-loop-k-init c = (omega arith, λ p h. (h, rows_none p c.args.n c.args.axis c.args.points.now))
+loop-k-init c = (omega arith, omega arith, λ p h. (h, rows_none p c.args.n c.args.axis c.args.points.now))
 
 pub row-e-requires : goal.row-e-requires
 row-e-requires a = sized (search)
@@ -72,27 +72,36 @@ overflow_add-at a = record { fits = omega (arith, room (search)) }
 pub next-s-requires : goal.next-s-requires
 next-s-requires a = sized (search)
 
+pub overflow_add-k : goal.overflow_add-k
+overflow_add-k a = let h = few (search) in search rules
+
+pub loop-k-smaller : goal.loop-k-smaller
+loop-k-smaller a = let h = below (search) in omega arith
+
 pub loop-k-preserved : goal.loop-k-preserved
 loop-k-preserved a =
     let l = a.loop-k in
-    let place : l.at + 3 * (a.args.n - l.k + 1) ≡ 3 * samples_before a.args.n (l.k + 1) + a.args.axis =
-    place_next a.args.p a.args.n a.args.axis l.k l.at a.args.points.now l.points _ (below (search)) a.requires.1 l.invariant.0 (inv (search)).1
+    let s = a in
+    let place : l.at + 3 * (s.args.n - l.k + 1) ≡ 3 * samples_before s.args.n (l.k + 1) + s.args.axis =
+    place_next s.args.p s.args.n s.args.axis l.k l.at s.args.points.now l.points _ (below (search)) s.requires.1 l.invariant.1 (inv (search)).1
     a.row-e.result (row_is (c (search)) l.k l.s a.row-e.result a.row-e.ensures (inv (search)).0) a.put_row.ensures in (
+      omega (arith, below (search)),
       place,
       λ q h.
-          let i = l.invariant.1 q h in (
-            a.next-s.ensures ∙ ap steps_of i.0 ∙ states_step (polynomial_of q (pos a.args.n)) l.k,
-            rows_step q a.args.n a.args.axis l.k l.at a.args.points.now l.points _ (below (search)) a.requires.1 l.invariant.0 i.1
-                a.row-e.result (row_is (polynomial_of q (pos a.args.n)) l.k l.s a.row-e.result a.row-e.ensures i.0)
+          let i = l.invariant.2 q h in (
+            a.next-s.ensures ∙ ap steps_of i.0 ∙ states_step (polynomial_of q (pos s.args.n)) l.k,
+            rows_step q s.args.n s.args.axis l.k l.at s.args.points.now l.points _ (below (search)) s.requires.1 l.invariant.1 i.1
+                a.row-e.result (row_is (polynomial_of q (pos s.args.n)) l.k l.s a.row-e.result a.row-e.ensures i.0)
                 a.put_row.ensures,
           ),
     )
 
 pub shape_of-points : goal.shape_of-points
-shape_of-points a = (a.loop-k.invariant.1 _ a.start-s.ensures).1.same
+shape_of-points a = (a.loop-k.invariant.2 _ a.start-s.ensures).1.same
 
 pub returns : goal.returns
 returns a =
     let l = a.loop-k in
-    subst (λ (x : ℕ). RowsPut a.args.p a.args.n a.args.axis x a.args.points.now l.points) (omega arith)
-    (l.invariant.1 a.args.p a.start-s.ensures).1
+    let s = a in
+    subst (λ (x : ℕ). RowsPut s.args.p s.args.n s.args.axis x s.args.points.now l.points) (omega (arith, l.invariant.0))
+    (l.invariant.2 s.args.p a.start-s.ensures).1
