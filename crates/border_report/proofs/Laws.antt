@@ -38,8 +38,9 @@ accepted_added P M v r m s e h =
 
 -- a call
 module _ (P : Page) (F : Offered) where
-  pub refused_report : (r : Refusal) → fault r.number r.place ≡ page_verdict P → ReportedTo P F (Err r)
-  refused_report r e = record { answers = e; holds = tt }
+  pub refused_report : (r : Refusal) → fault r.number r.place ≡ page_verdict P → ReportedTo P F (Err (record { refusal = r; page = P }))
+  unfolding page_after
+  refused_report r e = record { answers = e; holds = rw (← e) }
 
   pub done_report : (N : Page) → page_verdict P ≡ sound → N ≡ added P (mesh_in F) (verdict_in F) → ReportedTo P F (Ok N)
   unfolding page_after

@@ -18,15 +18,17 @@ ghost use Rattle.dms_lists.specs.lists.Room.{Room};
 ghost use Rattle.checks.specs.Checked.{RowsFor};
 
 use mesh::SMALL_MESH;
-use paper::{MOST_CORNERS, MOST_FACES, MOST_NUMBERS, MOST_PAIRS, MeshLists, Page, Refusal};
+use paper::{MOST_CORNERS, MOST_FACES, MOST_NUMBERS, MOST_PAIRS, MeshLists, Page, RefusedPage};
 use surface::POINT_ROW;
 use walk::ROW;
 
-// The page after one file more, from the bytes read and the length counted.
-pub fn report(bytes: &[u8], counted: usize, page: Page) -> Result<Page, Refusal>
+// The page after one file more, from the bytes read and the length counted, or the page as it was.
+pub fn report(bytes: &[u8], counted: usize, page: Page) -> Result<Page, RefusedPage>
     ensures { ReportedTo page (offered bytes.now counted) result }
 {
-    pages::check(page)?;
+    if let Err(refusal) = pages::check(page) {
+        return Err(RefusedPage { refusal, page });
+    }
     let held = bytes.len().min(counted);
     Ok(with_file(&bytes[..held], counted, page))
 }

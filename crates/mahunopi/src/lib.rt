@@ -527,7 +527,7 @@ pub fn mahunopi_report(
             *page = page_numbers::numbers(after);
             0
         }
-        Err(refusal) => tell(Err(refusal), place),
+        Err(refused) => tell(Err(refused.refusal), place),
     }
 }
 
@@ -544,7 +544,7 @@ pub fn mahunopi_merge(
             *page = page_numbers::numbers(after);
             0
         }
-        Err(refusal) => tell(Err(refusal), place),
+        Err(refused) => tell(Err(refused.refusal), place),
     }
 }
 

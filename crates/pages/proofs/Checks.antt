@@ -137,8 +137,8 @@ both_small P Q e =
     )
 
 -- ---- what a call of merging leaves
-pub refused_merge : (P Q : Page) (r : Refusal) → fault r.number r.place ≡ merge_verdict P Q → MergedTo P Q (Err r)
-refused_merge P Q r e = record { answers = e; holds = tt }
+pub refused_merge : (P Q : Page) (r : Refusal) → fault r.number r.place ≡ merge_verdict P Q → MergedTo P Q (Err (record { refusal = r; page = P }))
+refused_merge P Q r e = record { answers = e; holds = rw (← e) }
 
 pub done_merge : (P Q N : Page) → merge_verdict P Q ≡ sound → N ≡ merged P Q → MergedTo P Q (Ok N)
-done_merge P Q N e n = record { answers = sym e; holds = n }
+done_merge P Q N e n = record { answers = sym e; holds = rw e n }

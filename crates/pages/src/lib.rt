@@ -6,7 +6,7 @@ ghost use Rattle.paper.specs.Mesh.{Mesh, most_corners};
 ghost use Rattle.paper.specs.Faults.{sound, fault, stated};
 ghost use Rattle.paper.specs.Report.{page_with, line_numbers, lines, conditions, added, most_on_page, some_above, fault38, page_verdict, merged, merge_verdict, MergedTo};
 
-use paper::{CONDITIONS, LINES, MOST_MESHES, MOST_ON_PAGE, Page, Refusal};
+use paper::{CONDITIONS, LINES, MOST_MESHES, MOST_ON_PAGE, Page, Refusal, RefusedPage};
 use std::array;
 
 // The numbers of the two checks, and the place of 37.
@@ -21,11 +21,13 @@ const LAST_NUMBER: u8 = 28;
 
 const LINE_NUMBERS: [u8; LINES] = [1, 2, 3, 4, 5, 6, 7, 8, 9, 10, 11, 12, 13, LAST_NUMBER];
 
-// Two pages as one.
-pub fn merge(page: Page, other: Page) -> Result<Page, Refusal>
+// Two pages as one, or the first as it was.
+pub fn merge(page: Page, other: Page) -> Result<Page, RefusedPage>
     ensures { MergedTo page other result }
 {
-    check_merge(page, other)?;
+    if let Err(refusal) = check_merge(page, other) {
+        return Err(RefusedPage { refusal, page });
+    }
     Ok(sum_pages(page, other))
 }
 

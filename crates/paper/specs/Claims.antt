@@ -23,7 +23,7 @@ use Rattle.paper.specs.Borders.{Output, output_at, Wrote, output_of, Holds, writ
 use Rattle.paper.specs.Sampling.{Weights, weights, on_axis, Sampled, TriangleSampled, side_number, net_in, Alike, control_point, Leaves, Between, row_start}
 use Rattle.paper.specs.Triangles.{apex, foot, point_number, sample_number, point_list, triangle_list, Triangulated, TrianglesCounted, ClosedMesh, Spot}
 use Rattle.paper.specs.Tangents.{most_tangent, TangentsSampled, TangentsFilled}
-use Rattle.paper.specs.Report.{Once, Offered, verdict_in, zero_page, most_meshes, conditions, page_verdict, run, page_of, AddsOne, Reordered, MergedTo}
+use Rattle.paper.specs.Report.{Once, Offered, verdict_in, zero_page, most_meshes, conditions, page_verdict, run, page_of, AddsOne, Reordered, NextPage, MergedTo}
 use Rattle.paper.specs.Mirror.{Mirror}
 use Rattle.paper.specs.Accuracy.{Same, Accurate}
 use Rattle.paper.specs.Manifold.{Manifold}
@@ -321,7 +321,7 @@ OrderFree = (files others : List Offered) → Reordered files others → length 
 -- a call that merges the pages of two parts is done and leaves the page of the whole run
 abbrev pub PartsMerge : Type 0
 PartsMerge =
-    (files more : List Offered) (r : Told Page) → length files + length more ≤ most_meshes → MergedTo (run zero_page files) (run zero_page more) r
+    (files more : List Offered) (r : NextPage) → length files + length more ≤ most_meshes → MergedTo (run zero_page files) (run zero_page more) r
     → r ≡ Ok (run zero_page (files ++ more))
 
 -- ---- the triangles of the whole surface: `Whole says` is that `says` holds of the points and the triangles that a call for all corners has written, whatever the

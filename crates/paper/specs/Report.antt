@@ -1,5 +1,5 @@
 -- L14, the yearly border report: a page, the next page of a page and a file, what a run of files leaves, and two pages as one.
-use Rattle.std.specs.Prelude.{◌≡◌, Bool, true, false, not, ◌||◌, List, [], ◌∷◌, ◌++◌, ℕ, zero, suc, ◌+◌, ◌*◌, ◌^◌, ◌<◌, max, ltb, leb, eqb, length, get_or, replicate, set, ℤ, nat_abs, IfOk}
+use Rattle.std.specs.Prelude.{◌≡◌, Bool, true, false, not, ◌||◌, List, [], ◌∷◌, ◌++◌, ℕ, zero, suc, ◌+◌, ◌*◌, ◌^◌, ◌<◌, max, ltb, leb, eqb, length, get_or, replicate, set, ℤ, nat_abs, Result, Ok, Err}
 use Rattle.paper.specs.Scan.{pick_n, values_from}
 use Rattle.paper.specs.Mesh.{Mesh, corner_count}
 use Rattle.paper.specs.Faults.{Verdict, sound, fault, ◌or_else◌, single, stated, kept, Told}
@@ -7,6 +7,7 @@ use Rattle.paper.specs.Net.{Side, side0, side1, side2, side3, across}
 use Rattle.paper.specs.File.{file_of, file_mesh, file_verdict}
 use Rattle.paper.specs.Borders.{output_of, beside, miss, first, second, third, fourth}
 use Rattle.paper.specs.declared.Page.{Page}
+use Rattle.paper.specs.declared.RefusedPage.{RefusedPage}
 
 -- ---- the page: meshes offered, corners built, borders met, refusals under each of 1 to 13 and 28, and for each of the four conditions the largest
 -- miss; 21 numbers
@@ -128,10 +129,22 @@ verdict_in F = file_verdict (file_of F.bytes F.counted) F.counted
 unfoldable pub page_after : Page → Offered → Page
 page_after P F = kept (page_verdict P) (added P (mesh_in F) (verdict_in F)) P
 
+-- what a call that takes a page returns: the next page, or a refusal and the page as it was; its answer alone; the page alone
+abbrev pub NextPage : Type 0
+NextPage = Result Page RefusedPage
+
+abbrev pub answer_of : NextPage → Told Page
+answer_of (Ok next) = Ok next
+answer_of (Err refused) = Err refused.refusal
+
+abbrev pub page_left : NextPage → Page
+page_left (Ok next) = next
+page_left (Err refused) = refused.page
+
 -- a call of the report with this page and this file
-pub record ReportedTo (P : Page) (F : Offered) (r : Told Page) : Type 0 where
-  pub answers : stated r ≡ page_verdict P
-  pub holds : IfOk r (λ next. next ≡ page_after P F)
+pub record ReportedTo (P : Page) (F : Offered) (r : NextPage) : Type 0 where
+  pub answers : stated (answer_of r) ≡ page_verdict P
+  pub holds : page_left r ≡ page_after P F
 
 -- ---- a run: the page after one file goes to the next call
 abbrev pub run : Page → List Offered → Page
@@ -200,6 +213,6 @@ merged P Q = page_with
 unfoldable pub merge_verdict : Page → Page → Verdict
 merge_verdict P Q = single 37 (ltb most_meshes (P.meshes + Q.meshes)) most_meshes or_else single 38 (fault38 P || fault38 Q) 0
 
-pub record MergedTo (P Q : Page) (r : Told Page) : Type 0 where
-  pub answers : stated r ≡ merge_verdict P Q
-  pub holds : IfOk r (λ sum. sum ≡ merged P Q)
+pub record MergedTo (P Q : Page) (r : NextPage) : Type 0 where
+  pub answers : stated (answer_of r) ≡ merge_verdict P Q
+  pub holds : page_left r ≡ kept (merge_verdict P Q) (merged P Q) P

@@ -148,6 +148,13 @@ pub struct Page {
     pub misses: [u64; CONDITIONS],
 }
 
+// Why a call gives no next page, and the page as it was.
+#[derive(Clone, Copy)]
+pub struct RefusedPage {
+    pub refusal: Refusal,
+    pub page: Page,
+}
+
 // How many numbers of points and of triangles a call for triangles writes.
 #[derive(Clone, Copy)]
 pub struct Triangles {

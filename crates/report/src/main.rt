@@ -6,7 +6,7 @@ ghost use Rattle.std.specs.Prelude.{◌≤◌, ◌<◌, length};
 
 use line_input::{LineError, next_line};
 use lines::complain_refusal;
-use paper::{NUMBERS_ON_PAGE, Page, Refusal};
+use paper::{NUMBERS_ON_PAGE, Page, RefusedPage};
 use print::file_input::{BUFFER, read_file};
 use std::fs::File;
 use std::io::IsTerminal;
@@ -129,7 +129,7 @@ fn offer(rt: HostRuntime, bytes: &[u8], counted: usize, page: &mut Page) -> Resu
 // The next page, or the line of a refusal.
 fn take_page(
     rt: HostRuntime,
-    reported: Result<Page, Refusal>,
+    reported: Result<Page, RefusedPage>,
     page: &mut Page,
 ) -> Result<(), Ended> {
     match reported {
@@ -137,7 +137,7 @@ fn take_page(
             *page = next;
             Ok(())
         }
-        Err(refusal) => {
+        Err(RefusedPage { refusal, .. }) => {
             complain_refusal(rt, refusal.number, refusal.place);
             Err(Ended)
         }

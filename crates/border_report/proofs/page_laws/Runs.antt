@@ -1,7 +1,7 @@
 -- What a run of files leaves. As long as it counts at most 4,096 meshes a page stays within 2^40, so no call is refused, and each page is the merge of the
 -- page before with what the file says: sums of the counts, maxima of the misses. These do not depend on the order, and a run's page is the merge of those
 -- of its parts.
-use Rattle.std.specs.Prelude.{Ok, Err, IfOk}
+use Rattle.std.specs.Prelude.{Ok, Err}
 use mathlib.Core.Path.{◌≡◌, refl, sym, ap, ◌∙◌, subst}
 use mathlib.Core.Bool.{Bool, true, false}
 use mathlib.Core.List.{List, [], ◌∷◌, ◌++◌, append-nil}
@@ -13,7 +13,7 @@ use lib.ListN.{length, get_or, replicate, length-append}
 use Rattle.paper.specs.Scan.{pick_n, values_from}
 use Rattle.paper.specs.Mesh.{Mesh, corner_count, most_corners}
 use Rattle.paper.specs.Cosines.{unit}
-use Rattle.paper.specs.Faults.{Verdict, sound, fault, Accepted, stated, Told}
+use Rattle.paper.specs.Faults.{Verdict, sound, fault, Accepted, stated}
 use Rattle.paper.specs.Borders.{most_miss}
 use Rattle.paper.specs.File.{file_verdict}
 use Rattle.mesh.proofs.Links.{values_length}
@@ -21,7 +21,7 @@ use Rattle.mesh.proofs.Verdicts.{or_else_sound, single_miss, sound_right, unsoun
 use Rattle.building.proofs.Laws.{few}
 use Rattle.paper.specs.declared.Page.{Page}
 use Rattle.paper.specs.Report.{page_with, line_numbers, lines, conditions, zero_page, border_count, largest_miss, added, most_meshes, most_on_page}
-use Rattle.paper.specs.Report.{some_above, fault38, page_verdict, Offered, mesh_in, verdict_in, page_after, run, if_accepted, total, largest, is_under}
+use Rattle.paper.specs.Report.{some_above, fault38, page_verdict, Offered, mesh_in, verdict_in, page_after, NextPage, answer_of, page_left, run, if_accepted, total, largest, is_under}
 use Rattle.paper.specs.Report.{refused_under, page_of, Reordered, same, swapped, then, merged, merge_verdict}
 use Rattle.paper.specs.Claims.{RunsPass, RunsSum, MissesWithin, OrderFree, PartsMerge}
 use Rattle.pages.proofs.Lists.{value_at_lem, values_equal, values_of, page_same}
@@ -209,9 +209,9 @@ parts files more =
     (values_equal _ _ lines (λ l h. simp value_at_lem (refused_append (get_or line_numbers l 0) files more)))
     (values_equal _ _ conditions (λ j h. simp value_at_lem (largest_append (λ M. largest_miss M j) files more)))
 
-answered : (r : Told Page) (N : Page) → stated r ≡ sound → IfOk r (λ x. x ≡ N) → r ≡ Ok N
+answered : (r : NextPage) (N : Page) → stated (answer_of r) ≡ sound → page_left r ≡ N → r ≡ Ok N
 answered (Ok x) N e h = ap Ok h
-answered (Err q) N e h = unsound q.number q.place e
+answered (Err q) N e h = unsound q.refusal.number q.refusal.place e
 
 merge_passes : (P Q : Page) (n m : ℕ) → PageWithin P n → PageWithin Q m → n + m ≤ most_meshes → merge_verdict P Q ≡ sound
 unfolding merge_verdict
@@ -225,7 +225,7 @@ parts_merge files more r few c =
     let Q = run zero_page more in
     let v = merge_passes P Q _ _ (zero_within files (omega arith)) (zero_within more (omega arith)) (omega arith) in
     let whole = runs_sum (files ++ more) (omega (arith, length-append files more)) in
-    answered r _ (c.answers ∙ v) c.holds ∙ ap Ok (rw (runs_sum files (omega arith), runs_sum more (omega arith), whole) (sym (parts files more)))
+    answered r _ (c.answers ∙ v) (rw v at c.holds) ∙ ap Ok (rw (runs_sum files (omega arith), runs_sum more (omega arith), whole) (sym (parts files more)))
 
 -- ---- the order of the files
 exchanged : (F G : Offered) (files : List Offered) → page_of (F ∷ G ∷ files) ≡ page_of (G ∷ F ∷ files)
