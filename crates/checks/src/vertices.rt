@@ -68,17 +68,26 @@ fn check_rings(
     Ok(())
 }
 
-// The length of the ring of links from `start` until it comes back, within `bound` steps: 0 where it does not.
+// The length of the ring of links from `start` until it comes back, within `bound` steps: 0 where it does not. It is a loop that yields the length by
+// `break`, with a falling remainder, since document 01 names that form here.
 fn ring(table: &[u16], count: usize, start: usize, bound: usize) -> usize
     requires { (start < count) × Linking table.now count }
     ensures { result ≡ ring_within (entry table.now to_link) start bound }
 {
+    let mut left = bound;
+    let mut len: usize = 0;
     let mut w = Walker { corner: start };
-    for passed in 0..bound {
-        w = w.linked(table);
-        if w.corner == start {
-            return passed + 1;
+    let n = loop {
+        if left == 0 {
+            break 0;
         }
-    }
-    0
+        w = w.linked(table);
+        left -= 1;
+        len += 1;
+        let at = w.corner;
+        if at == start {
+            break len;
+        }
+    };
+    n
 }

@@ -163,8 +163,8 @@ fn check_numbers(numbers: &[i32]) -> Result<(), Refusal>
 fn is_within(z: i32, most: u32) -> bool
     ensures { result ≡ within most z }
 {
-    let m = i64::from(most);
-    (-m..=m).contains(&i64::from(z))
+    let m = most as i64;
+    (-m..=m).contains(&(z as i64))
 }
 
 // The point's difference from b00 on an axis. Two numbers within ±2^27 differ by at most 2^28.

@@ -3,7 +3,7 @@ use mathlib.Core.Path.{◌≡◌, refl, ap, ◌∙◌, sym}
 use mathlib.Core.Bool.{Bool, true, false}
 use mathlib.Core.Logic.{⊎_elim}
 use mathlib.Core.List.{List}
-use Prim.Native.Nat.{ℕ, zero, suc, ◌+◌, ◌<◌, ◌≤◌}
+use Prim.Native.Nat.{ℕ, zero, suc, ◌+◌, ◌-◌, ◌<◌, ◌≤◌}
 use native.Mathlib.Omega.{arith}
 use native.Mathlib.Numerals.{add-one}
 use lib.Dec.{eqb}
@@ -29,36 +29,39 @@ use Rattle.checks.specs.vertices.Ring.{ring_within, Cornered, Ringed, VerticesCh
 abbrev pub back_at : (ℕ → ℕ) → ℕ → ℕ → Bool
 back_at step start j = eqb (iterate (suc j) step start) start
 
-pub record RingWalked (step : ℕ → ℕ) (count start len at : ℕ) : Type 0 where
+pub record RingWalked (step : ℕ → ℕ) (count start bound left len at : ℕ) : Type 0 where
+  pub sum : len + left ≡ bound
   pub place : at ≡ iterate len step start
   pub within : at < count
   pub fresh : (j : ℕ) → j < len → back_at step start j ≡ false
 
-pub around_start : (step : ℕ → ℕ) (count start : ℕ) → start < count → RingWalked step count start 0 start
-around_start step count start h =
-    record { place = sym (iterate_zero step start); within = h; fresh = λ j l. absurd (omega arith) }
+pub around_start : (step : ℕ → ℕ) (count start bound : ℕ) → start < count → RingWalked step count start bound bound 0 start
+around_start step count start bound h =
+    record { sum = omega arith; place = sym (iterate_zero step start); within = h; fresh = λ j l. absurd (omega arith) }
 
-module _ (step : ℕ → ℕ) (count start bound len at : ℕ) (a : RingWalked step count start len at) where
-  pub ring_none : bound ≤ len → 0 ≡ ring_within step start bound
+module _ (step : ℕ → ℕ) (count start bound left len at : ℕ) (a : RingWalked step count start bound left len at) where
+  pub ring_none : left ≡ 0 → 0 ≡ ring_within step start bound
   unfolding ring_within
   ring_none e =
-      let q : first_below bound (back_at step start) ≡ bound = first_none bound (back_at step start) (λ j l. a.fresh j (omega arith)) in
+      let q : first_below bound (back_at step start) ≡ bound = first_none bound (back_at step start) (λ j l. a.fresh j (omega (arith, a.sum))) in
       rw (le-ltb (first_below bound (back_at step start)) bound (omega arith))
 
   stepped : step at ≡ iterate (suc len) step start
   stepped = ap step a.place ∙ sym (iterate_suc step len start)
 
   -- one step, to where the link leads
-  module _ (n : len < bound) (to : ℕ) (q : to ≡ step at) where
+  module _ (n : left ≡ 0 → ⊥) (to : ℕ) (q : to ≡ step at) where
     pub ring_back : to ≡ start → len + 1 ≡ ring_within step start bound
     unfolding ring_within
     ring_back e =
-        let f : first_below bound (back_at step start) ≡ len = first_at bound (back_at step start) len n (eq-eqb _ _ (sym stepped ∙ sym q ∙ e)) a.fresh in
+        let l : len < bound = omega (arith, a.sum) in
+        let f : first_below bound (back_at step start) ≡ len = first_at bound (back_at step start) len l (eq-eqb _ _ (sym stepped ∙ sym q ∙ e)) a.fresh in
         rw (lt-ltb (first_below bound (back_at step start)) bound (omega arith)) (omega arith)
 
-    pub around_next : step at < count → (to ≡ start → ⊥) → RingWalked step count start (len + 1) to
+    pub around_next : step at < count → (to ≡ start → ⊥) → RingWalked step count start bound (left - 1) (len + 1) to
     around_next w ne =
         record {
+          sum = omega (arith, a.sum);
           place = q ∙ rw add-one stepped;
           within = omega arith;
           fresh = fails_step (back_at step start) len a.fresh (ne_eqb _ _ (λ e. ne (q ∙ stepped ∙ e)));
