@@ -87,6 +87,13 @@ packed() {
     [ "$found" -ge 4 ]
 }
 
+# The archive needs of the C library what include/mahunopi.h says, and nothing else.
+needs() {
+    found=$(nm -u "$library/libmahunopi.a" | awk '$1 == "U" { print $2 }' | sort -u | xargs)
+    echo "needed: $found, expected memcpy memset"
+    [ "$found" = 'memcpy memset' ]
+}
+
 # Every test that cargo runs counts as one; what does not compile counts as one that fails.
 rust_tests() {
     cargo test --manifest-path rust/Cargo.toml --workspace --release --offline --locked --no-fail-fast \
@@ -148,6 +155,7 @@ native() {
     check 'example inspect in C++17 prints what it should' inspect g++ -std=c++17 -x c++
     check 'building is compiled to vectors' vectors
     check 'archiving is compiled to vectors' packed
+    check 'the archive needs memcpy and memset alone' needs
     check 'sample meshes are what make-dms makes of their texts' samples
     rust_tests
     check 'example draw in C++17 and in Rust print the same' draw

@@ -1,11 +1,10 @@
--- The bytes of a file as values; the lengths of a file's lists; the sharpness list of either version.
-use mathlib.Core.Path.{◌≡◌, refl, ap, sym}
+-- The lengths of a file's lists; the sharpness list of either version.
+use mathlib.Core.Path.{◌≡◌, sym}
 use mathlib.Core.Bool.{true, false}
-use mathlib.Core.List.{List, ◌∷◌, ◌++◌}
-use Prim.Native.Nat.{ℕ, zero, suc, ◌+◌, ◌-◌, ◌*◌, ◌≤◌}
-use native.Mathlib.Omega.{arith}
-use lib.ListN.{length, get_or, take, drop, replicate}
-use lib.Seq.{take_at, drop-cons}
+use mathlib.Core.List.{List}
+use Prim.Native.Nat.{ℕ, ◌*◌}
+use lib.ListN.{length, take, drop, replicate}
+use lib.Seq.{take_at}
 use lib.IntN.{ℤ}
 use Rattle.paper.specs.Scan.{values_from}
 use Rattle.paper.specs.Mesh.{plain}
@@ -19,22 +18,6 @@ pub read_back_lem : {A : Type 0} (n : ℕ) (new old out : List A) → n ≡ leng
 read_back_lem n new old out q e = rw e (take_at new (drop (length new) old) n (sym q))
 
 module _ (file : List ℕ) where
-  -- the n bytes from a place on are the values that stand there
-  bytes_from : (start at n : ℕ) → start + at + n ≤ length file → take n (drop (start + at) file) ≡ values_from (side_in file start) at n
-  unfolding values_from
-  bytes_from start at zero h = refl
-  bytes_from start at (suc n) h =
-      let e : suc (start + at) ≡ start + suc at = omega arith in
-      rw (drop-cons file (start + at) 0 (omega arith), e) (ap (λ l. get_or file (start + at) 0 ∷ l) (bytes_from start (suc at) n (omega arith)))
-
-  pub bytes_begin : (start n : ℕ) (old new : List ℕ) → start + n ≤ length file → new ≡ take (start + n - start) (drop start file)
-      → new ++ drop n old ≡ begins (values_from (side_in file start) 0 n) old
-  bytes_begin start n old new h e =
-      let k : start + n - start ≡ n = omega arith in
-      let z : start + 0 ≡ start = omega arith in
-      let b : take n (drop start file) ≡ values_from (side_in file start) 0 n = rw z at (bytes_from start 0 n (omega arith)) in
-      rw (values_length (side_in file start) 0 n, ← b, ← k, ← e)
-
   pub file_coordinates : 3 * vertices_in file ≡ length (file_mesh file).coordinates
   unfolding file_mesh
   file_coordinates = sym (values_length (coordinate_in file) 0 (3 * vertices_in file))
