@@ -7,7 +7,7 @@ use Prim.Native.Nat.{ℕ, suc, ◌+◌, ◌-◌, ◌*◌, ◌/◌, ◌%◌, ◌^
 use native.Mathlib.Omega.{arith}
 use lib.Dec.{eqb, ltb, lit≤}
 use borrow.Author.Tests.{eqb-true, eqb-false, ltb-true, ltb-false}
-use lib.ListN.{length, get_or, set}
+use lib.ListN.{length, get_or, set, length-set}
 use lib.Seq.{get_or-set_same, get_or-set_other}
 use lib.IntN.{ℤ, pos, nat_abs, ◌+ℤ◌, ◌-ℤ◌}
 use mir.Syntax.{w64}
@@ -19,7 +19,7 @@ use Rattle.paper.specs.Floats.{net_verdict}
 use Rattle.paper.specs.Sampling.{side_at}
 use Rattle.paper.specs.Triangles.{turn_weights}
 use Rattle.paper.specs.Tangents.{tangent_pair}
-use Rattle.mesh.proofs.Fills.{filled_none}
+use Rattle.mesh.proofs.Fills.{filled_none, filled_step}
 use Rattle.mesh.proofs.Scans.{ways}
 use Rattle.bernstein.specs.declared.Matrix5.{Matrix5}
 use Rattle.bernstein.specs.declared.Vector5.{Vector5}
@@ -38,7 +38,16 @@ use Rattle.net_tangents.proofs.Cubic.{less_size}
 use Rattle.net_tangents.proofs.Lanes.{lanes_start, states_value}
 use Rattle.net_tangents.proofs.Values.{lane_is, lane_smooth, values_part}
 
--- ---- four copies of six
+-- one more number of a copy
+pub copy_step : (g : ℕ → ℤ) (at e : ℕ) (first mid : List ℤ) (x : ℤ) → at + e < length mid → x ≡ g e → Fills g at e first mid → Fills g at (e + 1) first (set mid (at + e) x)
+copy_step g at e first mid x h v a f old filled values =
+    let q = a f old filled (λ y l. values y (omega arith)) in
+    subst (λ (n : ℕ). FilledTo f old n (set mid (at + e) x)) (let z : at + e + 1 ≡ at + (e + 1) = omega arith in z) (record {
+      long = simp length-set q.long;
+      holds = filled_step f old (at + e) mid x (pos 0) (omega (arith, q.long)) q.holds (v ∙ sym (values e (omega arith)));
+    })
+
+-- four copies of six
 module _ (table : List ℤ) (lane : ℕ) (old a b c d : List ℤ) (n : length old ≡ 24) (f0 : Fills (λ e. get_or table (lane + e) (pos 0)) 0 6 old a)
     (f1 : Fills (λ e. get_or table (lane + 24 + e) (pos 0)) 6 6 a b) (f2 : Fills (λ e. get_or table (lane + 48 + e) (pos 0)) 12 6 b c)
     (f3 : Fills (λ e. get_or table (lane + 72 + e) (pos 0)) 18 6 c d) where
