@@ -10,6 +10,7 @@ import subprocess
 import sys
 import threading
 import time
+from pathlib import Path
 
 sys.path[:0] = [os.path.dirname(os.path.dirname(os.path.abspath(__file__))), os.path.dirname(os.path.abspath(__file__))]
 
@@ -44,6 +45,14 @@ def opened(pipe, process):
     file = wait_until(tried, process)
     os.set_blocking(file.fileno(), True)
     return file
+
+
+def state(process):
+    """What a process does, by the system's letter: it sleeps (S), is stopped (T), has ended (Z)."""
+    try:
+        return Path(f"/proc/{process.pid}/stat").read_text().rsplit(")", 1)[1].split()[0]
+    except OSError:
+        return "Z"
 
 
 @contextlib.contextmanager

@@ -11,7 +11,7 @@ from pathlib import Path
 import pytest
 
 import mahunopi
-from conftest import SECONDS, Terminal, opened, started, wait_until
+from conftest import SECONDS, Terminal, opened, started, state, wait_until
 from mahunopi.command import main
 from mahunopi.shape import Shape
 from mahunopi.surface import sizes
@@ -314,14 +314,6 @@ def test_broken_pipes(room):
         done = subprocess.run([*COMMAND, *words], stdout=theirs, stderr=subprocess.PIPE, timeout=SECONDS)
         os.close(theirs)
         assert done.stderr == b"" and done.returncode == 141
-
-
-def state(process):
-    """What a process does, by the system's letter: it sleeps (S), is stopped (T), has ended (Z)."""
-    try:
-        return Path(f"/proc/{process.pid}/stat").read_text().rsplit(")", 1)[1].split()[0]
-    except OSError:
-        return "Z"
 
 
 @pytest.mark.parametrize("number, status", [(signal.SIGINT, 130), (signal.SIGTERM, 143), (signal.SIGHUP, 129)])

@@ -12,7 +12,7 @@ import numpy as np
 import pytest
 
 import mahunopi
-from conftest import SECONDS, Terminal, opened, started
+from conftest import SECONDS, Terminal, opened, started, state, wait_until
 from mahunopi.borders import misses
 from mahunopi.reporting import MOST_CHUNK, where
 from shapes import cube, mesh_of, prism, round_torus
@@ -201,6 +201,8 @@ def test_an_interrupt_where_there_is_no_terminal(room, kind, status):  # noqa: F
     pipe = many_files([2 * MOST_CHUNK + 1])[2 * MOST_CHUNK + 1]
     with started([*COMMAND, "report", "year", "--jobs", "1", "--json"], stdout=subprocess.PIPE, stderr=subprocess.PIPE) as process:
         with opened(pipe, process):
+            # it has the pipe, and what it sleeps for is the file: Python does not act on a signal between the two before the file comes
+            wait_until(lambda: state(process) == "S", process)
             interrupt(process, kind)
             out, err = process.communicate(timeout=SECONDS)
     assert process.returncode == status
